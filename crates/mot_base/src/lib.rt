@@ -1,0 +1,41 @@
+//! What every layer of the runtime stands on: parties and seeds, the words of a party's tape, and the
+//! traits through which the program meets files and its output.
+#![tactic(auto)]
+
+ghost use Rattle.std.specs.Prelude.{◌≡◌};
+ghost use Rattle.mot_base.specs.declared.NoMemory.{NoMemory};
+
+use std::alloc::{AllocError, AllocFailed};
+
+mod tapes;
+
+pub use tapes::{derive, tape_share, tape_word};
+
+/// The number of a party, from 0. A run has 2 to 8 parties; that the number is below theirs is a
+/// condition of the calls that take one.
+#[derive(Clone, Copy, Debug, PartialEq, Eq, PartialOrd, Ord, Hash)]
+pub struct Party(pub u8);
+
+/// The 32 bytes that stand for a tape of ChaCha20 words.
+#[derive(Clone, Copy, Debug, PartialEq, Eq)]
+pub struct Seed(pub [u8; 32]);
+
+/// Memory ran out.
+#[derive(Clone, Copy, Debug, PartialEq, Eq)]
+pub struct NoMemory;
+
+/// The outside failed: a file, a link or the output.
+#[derive(Clone, Copy, Debug, PartialEq, Eq)]
+pub struct Failed;
+
+impl From<AllocError> for NoMemory {
+    fn from(_error: AllocError) -> NoMemory {
+        NoMemory
+    }
+}
+
+impl<T: Drop> From<AllocFailed<T>> for NoMemory {
+    fn from(_error: AllocFailed<T>) -> NoMemory {
+        NoMemory
+    }
+}
