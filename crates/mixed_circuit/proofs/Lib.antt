@@ -1,0 +1,4 @@
+mod TextLemmas
+mod WordLemmas
+mod CircuitLemmas
+mod ReadingLemmas

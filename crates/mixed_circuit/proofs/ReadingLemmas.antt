@@ -1,0 +1,267 @@
+-- The words of a line that is said, one by one.
+use Rattle.std.proofs.Common.{ℕ, ◌≡◌, ◌≢◌, ◌<◌, ◌≤◌, List, [], ◌∷◌, ◌-◌, length, map, take, drop, get_or, Option, Some, None, true, false, refl, sym, ◌∙◌, ap, ap₂, subst, arith, Bor, Bool}
+use Rattle.std.specs.Prelude.{IfNone, MatchOption, codes, is_some, option_and_then}
+use Rattle.std.specs.Str.{bytes_eq}
+use Rattle.std.proofs.lemmas.Bool.{false≢true}
+use Rattle.std.proofs.lemmas.Slice.Eq.{bytes_eq-Decides}
+use Rattle.std.proofs.Math.Seq.{take-length}
+use Rattle.mot_base.specs.declared.Party.{Party}
+use Rattle.share_types.specs.declared.WireType.TheVariants.{A}
+use Rattle.mixed_circuit.specs.declared.circuit.Form.{Form}
+use Rattle.mixed_circuit.specs.declared.circuit.Form.TheVariants.{InputA, AddA, SubA, MulA, Output}
+use Rattle.mixed_circuit.specs.declared.read.Operation.{Operation}
+use Rattle.mixed_circuit.specs.declared.read.Operation.TheVariants.{Input, Add, Sub, Mul}
+use Rattle.mixed_circuit.specs.Text.{Text}
+use Rattle.mixed_circuit.specs.declared.circuit.Receiver.{Receiver}
+use Rattle.mixed_circuit.specs.declared.circuit.Receiver.TheVariants.{All, One}
+use Rattle.mixed_circuit.specs.declared.read.Said.{Said}
+use Rattle.share_types.specs.declared.WireType.{WireType}
+use Rattle.mixed_circuit.specs.Word.{is_name, number_of}
+use Rattle.mixed_circuit.specs.Circuit.{Circuit, Statement, IsCircuit, Follows, wire_of, wire_at, place_of}
+use Rattle.mixed_circuit.specs.Grammar.{Spell, Spells, spelling, receiver_piece}
+use Rattle.mixed_circuit.specs.SoFar.{is_told_to_all}
+use Rattle.mixed_circuit.specs.Reading.{SaysValue, SaysInput, SaysPair, SaysAssigned, SaysOutput, SaysSoFar, operation_word}
+use Rattle.mixed_circuit.proofs.CircuitLemmas.{place_of-name, place_of-named}
+
+pub if_none : {X : Type 0} (o : Option X) {P : Type 0} → P → IfNone o P
+if_none None p = p
+if_none (Some x) p = tt
+
+take_all : (ws : List (Bor Text)) (n : ℕ) → n ≡ length ws → take n ws ≡ ws
+take_all ws n e = ap (λ k. take k ws) e ∙ take-length ws
+
+-- the words of a list of references that is not empty
+pub words-cons : (ws : List (Bor Text)) (d : Bor Text) → 1 ≤ length ws → map (λ w. w.now) ws ≡ (get_or ws 0 d).now ∷ map (λ w. w.now) (take (length ws - 1) (drop 1 ws))
+words-cons [] d h = absurd (omega arith)
+words-cons (w ∷ ws) d h = ap (λ (more : List (Bor Text)). w.now ∷ map (λ w. w.now) more) (sym (take_all ws _ (omega arith)))
+
+-- texts that a test tells apart
+pub texts_differ : (a b : Text) → bytes_eq a b ≡ false → a ≢ b
+texts_differ a b h e = false≢true (sym h ∙ (bytes_eq-Decides a b).1 e)
+
+-- what stands behind the word of an operation, and the form that it says
+abbrev pub SaysBehind : Circuit → List Text → Operation → Form → Type 0
+SaysBehind c rest Input form = SaysInput c rest form
+SaysBehind c rest Add form = (x y : ℕ) × SaysPair c rest x y × (form ≡ AddA x y)
+SaysBehind c rest Sub form = (x y : ℕ) × SaysPair c rest x y × (form ≡ SubA x y)
+SaysBehind c rest Mul form = (x y : ℕ) × SaysPair c rest x y × (form ≡ MulA x y)
+
+pub record SaysOperation (c : Circuit) (word : Text) (rest : List Text) (form : Form) : Type 0 where
+  pub operation : Operation
+  pub word_is : word ≡ operation_word operation
+  pub behind : SaysBehind c rest operation form
+
+-- a form that gives a value is said by the word of its operation
+pub operation_said : (c : Circuit) (word : Text) (rest : List Text) (form : Form) → SaysValue c (word ∷ rest) form → SaysOperation c word rest form
+operation_said c word [] (InputA party) h = absurd h.1.1
+operation_said c word (a ∷ []) (InputA party) h = absurd h.1.1.1
+operation_said c word (a ∷ b ∷ []) (InputA party) h = record { operation = Input; word_is = h.1.0; behind = (a, party.0, ap (λ w. a ∷ w ∷ []) h.1.1.1.0, h.1.1.0, h.2, refl) }
+operation_said c word (a ∷ b ∷ d ∷ more) (InputA party) h = absurd h.1.1.1.1
+operation_said c word [] (AddA x y) h = absurd h.1.1
+operation_said c word (a ∷ []) (AddA x y) h = absurd h.1.1.1
+operation_said c word (a ∷ b ∷ []) (AddA x y) h = record { operation = Add; word_is = h.1.0; behind = (x, y, (a, b, refl, h.1.1.0, h.1.1.1.0, h.2), refl) }
+operation_said c word (a ∷ b ∷ d ∷ more) (AddA x y) h = absurd h.1.1.1.1
+operation_said c word [] (SubA x y) h = absurd h.1.1
+operation_said c word (a ∷ []) (SubA x y) h = absurd h.1.1.1
+operation_said c word (a ∷ b ∷ []) (SubA x y) h = record { operation = Sub; word_is = h.1.0; behind = (x, y, (a, b, refl, h.1.1.0, h.1.1.1.0, h.2), refl) }
+operation_said c word (a ∷ b ∷ d ∷ more) (SubA x y) h = absurd h.1.1.1.1
+operation_said c word [] (MulA x y) h = absurd h.1.1
+operation_said c word (a ∷ []) (MulA x y) h = absurd h.1.1.1
+operation_said c word (a ∷ b ∷ []) (MulA x y) h = record { operation = Mul; word_is = h.1.0; behind = (x, y, (a, b, refl, h.1.1.0, h.1.1.1.0, h.2), refl) }
+operation_said c word (a ∷ b ∷ d ∷ more) (MulA x y) h = absurd h.1.1.1.1
+operation_said c word rest (Output x to) h = cc
+
+-- two operations have two words
+pub operation_word-injective : (o p : Operation) → operation_word o ≡ operation_word p → o ≡ p
+operation_word-injective Input Input h = refl
+operation_word-injective Input Add h = absurd (texts_differ (operation_word Input) (operation_word Add) refl h)
+operation_word-injective Input Sub h = absurd (texts_differ (operation_word Input) (operation_word Sub) refl h)
+operation_word-injective Input Mul h = absurd (texts_differ (operation_word Input) (operation_word Mul) refl h)
+operation_word-injective Add Input h = absurd (texts_differ (operation_word Add) (operation_word Input) refl h)
+operation_word-injective Add Add h = refl
+operation_word-injective Add Sub h = absurd (texts_differ (operation_word Add) (operation_word Sub) refl h)
+operation_word-injective Add Mul h = absurd (texts_differ (operation_word Add) (operation_word Mul) refl h)
+operation_word-injective Sub Input h = absurd (texts_differ (operation_word Sub) (operation_word Input) refl h)
+operation_word-injective Sub Add h = absurd (texts_differ (operation_word Sub) (operation_word Add) refl h)
+operation_word-injective Sub Sub h = refl
+operation_word-injective Sub Mul h = absurd (texts_differ (operation_word Sub) (operation_word Mul) refl h)
+operation_word-injective Mul Input h = absurd (texts_differ (operation_word Mul) (operation_word Input) refl h)
+operation_word-injective Mul Add h = absurd (texts_differ (operation_word Mul) (operation_word Add) refl h)
+operation_word-injective Mul Sub h = absurd (texts_differ (operation_word Mul) (operation_word Sub) refl h)
+operation_word-injective Mul Mul h = refl
+
+-- what stands behind a word that is an operation's
+pub behind : (c : Circuit) (word : Text) (rest : List Text) (operation : Operation) (form : Form) → word ≡ operation_word operation → SaysValue c (word ∷ rest) form → SaysBehind c rest operation form
+behind c word rest operation form e h =
+    let said = operation_said c word rest form h in
+    subst (λ o. SaysBehind c rest o form) (operation_word-injective said.operation operation (sym said.word_is ∙ e)) said.behind
+
+abbrev pub first_word : List (Bor Text) → Text
+first_word ws = (get_or ws 0 (record { ref_ptr = (0, 0); now = [] })).now
+
+abbrev pub second_word : List (Bor Text) → Text
+second_word ws = (get_or ws 1 (record { ref_ptr = (0, 0); now = [] })).now
+
+abbrev pub third_words : List (Bor Text) → List Text
+third_words ws = map (λ w. w.now) (take (length ws - 2) (drop 2 ws))
+
+abbrev pub later_words : List (Bor Text) → List Text
+later_words ws = map (λ w. w.now) (take (length ws - 1) (drop 1 ws))
+
+-- no form is said by these words
+abbrev pub SayNoValue : Circuit → List (Bor Text) → Type 0
+SayNoValue c ws = (form : Form) → SaysValue c (map (λ w. w.now) ws) form → ⊥
+
+split : (c : Circuit) (ws : List (Bor Text)) (form : Form) → 1 ≤ length ws → SaysValue c (map (λ w. w.now) ws) form → SaysValue c (first_word ws ∷ later_words ws) form
+split c ws form some said = subst (λ line. SaysValue c line form) (words-cons ws _ some) said
+
+-- where the first word is no operation's
+pub no_operation : (o : Option Form) (c : Circuit) (ws : List (Bor Text)) → 1 ≤ length ws → ((operation : Operation) → first_word ws ≡ operation_word operation → ⊥) → IfNone o (SayNoValue c ws)
+no_operation o c ws some none =
+    let no : SayNoValue c ws = λ form said. let s = operation_said c (first_word ws) (later_words ws) form (split c ws form some said) in none s.operation s.word_is in
+    if_none o no
+
+not_behind : (c : Circuit) (ws : List (Bor Text)) (operation : Operation) → 1 ≤ length ws → first_word ws ≡ operation_word operation → ((form : Form) → SaysBehind c (later_words ws) operation form → ⊥) → SayNoValue c ws
+not_behind c ws operation some e none = λ form said. none form (behind c (first_word ws) (later_words ws) operation form e (split c ws form some said))
+
+-- where it is an operation's, and the words behind it do not fit
+pub no_behind : (o : Option Form) (c : Circuit) (ws : List (Bor Text)) (operation : Operation) → 1 ≤ length ws → first_word ws ≡ operation_word operation → ((form : Form) → SaysBehind c (later_words ws) operation form → ⊥) → IfNone o (SayNoValue c ws)
+no_behind o c ws operation some e none = if_none o (not_behind c ws operation some e none)
+
+pub no_input : (o : Option Form) (c : Circuit) (ws : List (Bor Text)) → 1 ≤ length ws → first_word ws ≡ operation_word Input → IfNone o ((form : Form) → SaysInput c (later_words ws) form → ⊥) → IfNone o (SayNoValue c ws)
+no_input None c ws some e none = not_behind c ws Input some e none
+no_input (Some form) c ws some e none = tt
+
+-- the words of a list of at least two references
+pub words-two : (ws : List (Bor Text)) → 2 ≤ length ws → map (λ w. w.now) ws ≡ first_word ws ∷ second_word ws ∷ third_words ws
+words-two [] h = absurd (omega arith)
+words-two (v ∷ []) h = absurd (omega arith)
+words-two (v ∷ w ∷ ws) h = ap (λ (more : List (Bor Text)). v.now ∷ w.now ∷ map (λ w. w.now) more) (sym (take_all ws _ (omega arith)))
+
+-- a form that gives a value is assigned
+assigned_value : (c : Circuit) (first second : Text) (rest : List Text) (s : Statement) → wire_of s.form ≡ Some A → (spelt : List Text) → first ∷ second ∷ rest ≡ s.name ∷ codes "=" ∷ spelt → Spell c.statements (spelling s.form) spelt → Follows c.parties c.statements s → SaysAssigned c first rest s.form
+assigned_value c first second rest s value spelt e spell follows =
+    let name : s.name ≡ first = cc in
+    let words : spelt ≡ rest = cc in
+    let Named : Option WireType → Type 0 = λ w. MatchOption w (s.name ≡ []) (λ _. (is_name s.name ≡ true) × (place_of c.statements s.name ≡ None)) in
+    let named = subst Named (follows.shared ∙ value) follows.named in
+    let IsNew : Text → Type 0 = λ text. (is_name text ≡ true) × (place_of c.statements text ≡ None) in
+    let new = subst IsNew name named in
+    (new.0, new.1, (value, subst (λ line. Spell c.statements (spelling s.form) line) words spell, follows.allowed))
+
+-- where the second word is `=`, what is said is assigned to the first
+pub assigned_said : (c : Circuit) (first second : Text) (rest : List Text) (name : Text) (wire : Option WireType) (form : Form) → IsCircuit c → second ≡ codes "=" → SaysSoFar c (first ∷ second ∷ rest) (record { name = name; wire = wire; form = form }) → SaysAssigned c first rest form
+assigned_said c first second rest name wire (InputA party) circuit e h = assigned_value c first second rest (record { name = name; wire = wire; form = InputA party }) refl h.0.0.0 h.0.0.1 h.0.0.2 h.0.1
+assigned_said c first second rest name wire (AddA x y) circuit e h = assigned_value c first second rest (record { name = name; wire = wire; form = AddA x y }) refl h.0.0.0 h.0.0.1 h.0.0.2 h.0.1
+assigned_said c first second rest name wire (SubA x y) circuit e h = assigned_value c first second rest (record { name = name; wire = wire; form = SubA x y }) refl h.0.0.0 h.0.0.1 h.0.0.2 h.0.1
+assigned_said c first second rest name wire (MulA x y) circuit e h = assigned_value c first second rest (record { name = name; wire = wire; form = MulA x y }) refl h.0.0.0 h.0.0.1 h.0.0.2 h.0.1
+assigned_said c first second rest name wire (Output x to) circuit e h = absurd (false≢true (subst (λ (text : Text). is_name text ≡ true) e (place_of-name c second x circuit h.0.0.1.0)))
+
+second_is : (first second : Text) (rest : List Text) (name : Text) (spelt : List Text) → first ∷ second ∷ rest ≡ name ∷ codes "=" ∷ spelt → second ≡ codes "="
+second_is first second rest name spelt e = cc
+
+output_all : (c : Circuit) (first second : Text) (rest : List Text) (x : ℕ) (to : Receiver) → is_told_to_all (Output x to) ≡ true → first ≡ codes "output" → place_of c.statements second ≡ Some x → Spell c.statements (receiver_piece to ∷ []) rest → SaysOutput c first second rest (Output x to)
+output_all c first second rest x (One party) told word operand receiver = absurd (false≢true told)
+output_all c first second [] x All told word operand receiver = absurd receiver
+output_all c first second (r ∷ []) x All told word operand receiver = (word, ap (λ w. w ∷ []) receiver.0, x, operand, refl)
+output_all c first second (r ∷ q ∷ more) x All told word operand receiver = absurd receiver.1
+
+-- where it is not, an output is said
+pub output_said : (c : Circuit) (first second : Text) (rest : List Text) (name : Text) (wire : Option WireType) (form : Form) → (second ≡ codes "=" → ⊥) → SaysSoFar c (first ∷ second ∷ rest) (record { name = name; wire = wire; form = form }) → SaysOutput c first second rest form
+output_said c first second rest name wire (InputA party) other h = absurd (other (second_is first second rest name _ h.0.0.1))
+output_said c first second rest name wire (AddA x y) other h = absurd (other (second_is first second rest name _ h.0.0.1))
+output_said c first second rest name wire (SubA x y) other h = absurd (other (second_is first second rest name _ h.0.0.1))
+output_said c first second rest name wire (MulA x y) other h = absurd (other (second_is first second rest name _ h.0.0.1))
+output_said c first second rest name wire (Output x to) other h = output_all c first second rest x to h.1 h.0.0.0 h.0.0.1.0 h.0.0.1.1
+
+-- no statement is said by these words
+abbrev pub SayNothing : Circuit → List (Bor Text) → Type 0
+SayNothing c ws = (s : Statement) → SaysSoFar c (map (λ w. w.now) ws) s → ⊥
+
+two_said : (c : Circuit) (ws : List (Bor Text)) (s : Statement) → 2 ≤ length ws → SaysSoFar c (map (λ w. w.now) ws) s → SaysSoFar c (first_word ws ∷ second_word ws ∷ third_words ws) s
+two_said c ws s two said = subst (λ line. SaysSoFar c line s) (words-two ws two) said
+
+pub no_assigned : (o : Option Said) (c : Circuit) (ws : List (Bor Text)) → IsCircuit c → 2 ≤ length ws → second_word ws ≡ codes "=" → ((form : Form) → SaysAssigned c (first_word ws) (third_words ws) form → ⊥) → IfNone o (SayNothing c ws)
+no_assigned o c ws circuit two e none =
+    let no : SayNothing c ws = λ s said. none s.form (assigned_said c (first_word ws) (second_word ws) (third_words ws) s.name s.wire s.form circuit e (two_said c ws s two said)) in
+    if_none o no
+
+pub no_output : (o : Option Said) (c : Circuit) (ws : List (Bor Text)) → 2 ≤ length ws → (second_word ws ≡ codes "=" → ⊥) → ((form : Form) → SaysOutput c (first_word ws) (second_word ws) (third_words ws) form → ⊥) → IfNone o (SayNothing c ws)
+no_output o c ws two other none =
+    let no : SayNothing c ws = λ s said. none s.form (output_said c (first_word ws) (second_word ws) (third_words ws) s.name s.wire s.form other (two_said c ws s two said)) in
+    if_none o no
+
+-- fewer than two words say nothing
+pub said_words : (c : Circuit) (line : List Text) (name : Text) (wire : Option WireType) (form : Form) → SaysSoFar c line (record { name = name; wire = wire; form = form }) → 2 ≤ length line
+said_words c line name wire (InputA party) h = rw (ap length h.0.0.1) (omega arith)
+said_words c line name wire (AddA x y) h = rw (ap length h.0.0.1) (omega arith)
+said_words c line name wire (SubA x y) h = rw (ap length h.0.0.1) (omega arith)
+said_words c line name wire (MulA x y) h = rw (ap length h.0.0.1) (omega arith)
+said_words c [] name wire (Output x to) h = absurd h.0.0
+said_words c (a ∷ []) name wire (Output x to) h = absurd h.0.0.1
+said_words c (a ∷ b ∷ more) name wire (Output x to) h = omega arith
+
+some_wire : (ss : List Statement) (name : Text) (x : ℕ) → place_of ss name ≡ Some x → is_some (wire_at ss x) ≡ true
+some_wire ss name x h = let found = place_of-named ss name x h in ap (λ (o : Option Statement). is_some (option_and_then (λ s. s.wire) o)) found.there ∙ found.value
+
+-- an output to all is a statement
+output_is : (c : Circuit) (first second : Text) (rest : List Text) (x : ℕ) → first ≡ codes "output" → rest ≡ codes "all" ∷ [] → place_of c.statements second ≡ Some x → SaysSoFar c (first ∷ second ∷ rest) (record { name = []; wire = None; form = Output x All })
+output_is c first second rest x word receiver operand =
+    let Receives : List Text → Type 0 = λ words. Spell c.statements (receiver_piece All ∷ []) words in
+    (((word, (operand, subst Receives (sym receiver) (refl, tt))), record { allowed = (some_wire c.statements second x operand, tt); shared = refl; named = refl }), refl)
+
+pub said_output : (c : Circuit) (ws : List (Bor Text)) (form : Form) → 2 ≤ length ws → SaysOutput c (first_word ws) (second_word ws) (third_words ws) form → SaysSoFar c (map (λ w. w.now) ws) (record { name = []; wire = None; form = form })
+said_output c ws form two h =
+    let Says : Form → Type 0 = λ f. SaysSoFar c (map (λ w. w.now) ws) (record { name = []; wire = None; form = f }) in
+    let here : SaysSoFar c (first_word ws ∷ second_word ws ∷ third_words ws) (record { name = []; wire = None; form = Output h.2 All }) = output_is c (first_word ws) (second_word ws) (third_words ws) h.2 h.0 h.1 h.3 in
+    subst Says (sym h.4) (subst (λ line. SaysSoFar c line (record { name = []; wire = None; form = Output h.2 All })) (sym (words-two ws two)) here)
+
+-- what is assigned to a new name is a statement
+assigned_is : (c : Circuit) (first second : Text) (rest : List Text) (form : Form) → second ≡ codes "=" → SaysAssigned c first rest form → SaysSoFar c (first ∷ second ∷ rest) (record { name = first; wire = Some A; form = form })
+assigned_is c first second rest (InputA party) e h = (((rest, ap (λ (w : Text). first ∷ w ∷ rest) e, h.2.1), record { allowed = h.2.2; shared = refl; named = (h.0, h.1) }), refl)
+assigned_is c first second rest (AddA x y) e h = (((rest, ap (λ (w : Text). first ∷ w ∷ rest) e, h.2.1), record { allowed = h.2.2; shared = refl; named = (h.0, h.1) }), refl)
+assigned_is c first second rest (SubA x y) e h = (((rest, ap (λ (w : Text). first ∷ w ∷ rest) e, h.2.1), record { allowed = h.2.2; shared = refl; named = (h.0, h.1) }), refl)
+assigned_is c first second rest (MulA x y) e h = (((rest, ap (λ (w : Text). first ∷ w ∷ rest) e, h.2.1), record { allowed = h.2.2; shared = refl; named = (h.0, h.1) }), refl)
+assigned_is c first second rest (Output x to) e h = cc
+
+pub said_assigned : (c : Circuit) (ws : List (Bor Text)) (form : Form) → 2 ≤ length ws → second_word ws ≡ codes "=" → SaysAssigned c (first_word ws) (third_words ws) form → SaysSoFar c (map (λ w. w.now) ws) (record { name = first_word ws; wire = Some A; form = form })
+said_assigned c ws form two e h = subst (λ line. SaysSoFar c line (record { name = first_word ws; wire = Some A; form = form })) (sym (words-two ws two)) (assigned_is c (first_word ws) (second_word ws) (third_words ws) form e h)
+
+same_number : {m n : ℕ} → Some m ≡ Some n → m ≡ n
+same_number e = cc
+
+-- the same words say one form
+input_unique : (c : Circuit) (rest : List Text) (f g : Form) → SaysInput c rest f → SaysInput c rest g → f ≡ g
+input_unique c rest f g h k =
+    let first : h.0 ≡ k.0 = cc in
+    let party : h.1 ≡ k.1 = same_number (sym h.3 ∙ ap number_of first ∙ k.3) in
+    h.5 ∙ ap (λ (n : ℕ). InputA (record { 0 = n })) party ∙ sym k.5
+
+pub record SamePair (x y v w : ℕ) : Type 0 where
+  pub first : x ≡ v
+  pub second : y ≡ w
+
+pair_unique : (c : Circuit) (rest : List Text) (x y v w : ℕ) → SaysPair c rest x y → SaysPair c rest v w → SamePair x y v w
+pair_unique c rest x y v w h k =
+    let first : h.0 ≡ k.0 = cc in
+    let second : h.1 ≡ k.1 = cc in
+    record { first = same_number (sym h.3 ∙ ap (place_of c.statements) first ∙ k.3); second = same_number (sym h.4 ∙ ap (place_of c.statements) second ∙ k.4) }
+
+behind_unique : (c : Circuit) (rest : List Text) (operation : Operation) (f g : Form) → SaysBehind c rest operation f → SaysBehind c rest operation g → f ≡ g
+behind_unique c rest Input f g h k = input_unique c rest f g h k
+behind_unique c rest Add f g h k = let same = pair_unique c rest _ _ _ _ h.2 k.2 in h.3 ∙ ap₂ (λ (x y : ℕ). AddA x y) same.first same.second ∙ sym k.3
+behind_unique c rest Sub f g h k = let same = pair_unique c rest _ _ _ _ h.2 k.2 in h.3 ∙ ap₂ (λ (x y : ℕ). SubA x y) same.first same.second ∙ sym k.3
+behind_unique c rest Mul f g h k = let same = pair_unique c rest _ _ _ _ h.2 k.2 in h.3 ∙ ap₂ (λ (x y : ℕ). MulA x y) same.first same.second ∙ sym k.3
+
+value_unique : (c : Circuit) (line : List Text) (f g : Form) → SaysValue c line f → SaysValue c line g → f ≡ g
+value_unique c [] (InputA party) g h k = absurd h.1
+value_unique c [] (AddA x y) g h k = absurd h.1
+value_unique c [] (SubA x y) g h k = absurd h.1
+value_unique c [] (MulA x y) g h k = absurd h.1
+value_unique c [] (Output x to) g h k = cc
+value_unique c (word ∷ rest) f g h k =
+    let said = operation_said c word rest f h in
+    behind_unique c rest said.operation f g said.behind (behind c word rest said.operation g said.word_is k)
+
+output_unique : (c : Circuit) (word operand : Text) (receiver : List Text) (f g : Form) → SaysOutput c word operand receiver f → SaysOutput c word operand receiver g → f ≡ g
+output_unique c word operand receiver f g h k = h.4 ∙ ap (λ (x : ℕ). Output x All) (same_number (sym h.3 ∙ k.3)) ∙ sym k.4

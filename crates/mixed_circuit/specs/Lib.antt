@@ -1,0 +1,6 @@
+pub mod Text
+pub mod Word
+pub mod Circuit
+pub mod Grammar
+pub mod SoFar
+pub mod Reading

@@ -1,0 +1,34 @@
+-- What of the language is read so far. All of this goes once the whole language is read.
+use Rattle.std.specs.Prelude.{ℕ, ◌≡◌, Bool, true, false, not, ◌==◌, ◌&&◌, List, [], ◌∷◌, ⊤}
+use Rattle.std.specs.List.{list_all}
+use Rattle.mixed_circuit.specs.declared.circuit.Form.{Form}
+use Rattle.mixed_circuit.specs.declared.circuit.Form.TheVariants.{InputA, AddA, SubA, MulA, Output}
+use Rattle.mixed_circuit.specs.declared.circuit.Receiver.TheVariants.{All, One}
+use Rattle.mixed_circuit.specs.Text.{Text, lines}
+use Rattle.mixed_circuit.specs.Word.{begins_hexadecimal}
+use Rattle.mixed_circuit.specs.Circuit.{Circuit, Statement}
+use Rattle.mixed_circuit.specs.Grammar.{content}
+
+-- no comment begins
+abbrev pub no_comment : Text → Bool
+no_comment text = list_all (λ b. not (b == 35)) text
+
+-- no word of a line is a hexadecimal number
+abbrev pub no_hexadecimal : List Text → Bool
+no_hexadecimal line = list_all (λ word. not (begins_hexadecimal word)) line
+
+-- an output is told to all
+abbrev pub is_told_to_all : Form → Bool
+is_told_to_all (InputA party) = true
+is_told_to_all (AddA x y) = true
+is_told_to_all (SubA x y) = true
+is_told_to_all (MulA x y) = true
+is_told_to_all (Output x All) = true
+is_told_to_all (Output x (One party)) = false
+
+-- the texts and circuits that are read so far
+pub record IsReadSoFar (text : Text) (c : Circuit) : Type 0 where
+  pub parties : c.parties ≡ 2
+  pub comments : no_comment text ≡ true
+  pub numbers : list_all no_hexadecimal (content (lines text)) ≡ true
+  pub outputs : list_all (λ s. is_told_to_all s.form) c.statements ≡ true
