@@ -1,0 +1,107 @@
+//! Arithmetic GMW: what a party makes of its shares of words modulo 2^64, where the shares of all
+//! parties sum to the word.
+#![tactic(auto)]
+
+ghost use Rattle.std.specs.Prelude.{◌≡◌, ◌≢◌, ℕ, ◌<◌, ◌≤◌, IfOk, vec_len, slice_get, remove};
+ghost use Rattle.mot_base.specs.Tape.{share_of_tape};
+ghost use Rattle.arithmetic_gmw.specs.Shares.{word_sum, word_difference, word_product, total, Recombines, raised_share, opened_left, opened_right, closed_share};
+
+use mot_base::{NoMemory, Party, Seed, tape_share};
+use share_types::MultTriple;
+use std::alloc::Global;
+
+mod laws;
+
+pub use laws::{
+    difference_recombines, product_recombines, raised_recombines, scaled_recombines, sum_recombines,
+};
+
+/// The shares of `x` that party `me` gives out at a gate of a session, one for each party in order: the
+/// others' are words of the seed's tape, and its own is what they leave of the value.
+pub fn share_out(
+    alloc: Global,
+    x: u64,
+    seed: &Seed,
+    session: u32,
+    gate: u32,
+    me: Party,
+    parties: u8,
+) -> Result<Vec<u64>, NoMemory>
+    requires session { session < 65536 }
+    requires gate { gate < 4194304 }
+    requires parties { parties ≤ 8 }
+    requires me { me.0 < parties }
+    ensures count { IfOk result (λ shares. vec_len shares ≡ parties) }
+    ensures others { IfOk result (λ shares. (to : ℕ) → to < parties → to ≢ me.0 →
+        slice_get shares.items to ≡ Some (share_of_tape seed.now.0 session gate to)) }
+    ensures own { IfOk result (λ shares.
+        slice_get shares.items me.0 ≡ Some (word_difference x (total (remove shares.items me.0)))) }
+    ensures recombines { IfOk result (λ shares. Recombines shares.items x) }
+{
+    let mut shares = Vec::with_capacity(alloc, usize::from(parties))?;
+    let mut own = x;
+    for to in 0..parties {
+        let share = if to == me.0 {
+            0
+        } else {
+            tape_share(seed, session, gate, Party(to))
+        };
+        own = own.wrapping_sub(share);
+        shares.push(share)?;
+    }
+    shares[usize::from(me.0)] = own;
+    Ok(shares)
+}
+
+/// A party's share of the sum of two shared words.
+pub fn add(x: u64, y: u64) -> u64
+    ensures { result ≡ word_sum x y }
+{
+    x.wrapping_add(y)
+}
+
+/// A party's share of the difference of two shared words.
+pub fn sub(x: u64, y: u64) -> u64
+    ensures { result ≡ word_difference x y }
+{
+    x.wrapping_sub(y)
+}
+
+/// A party's share of a shared word times a public constant.
+pub fn mul_const(x: u64, c: u64) -> u64
+    ensures { result ≡ word_product x c }
+{
+    x.wrapping_mul(c)
+}
+
+/// A party's share of a shared word plus a public constant, which party 0 alone adds.
+pub fn add_const(me: Party, x: u64, c: u64) -> u64
+    ensures { result ≡ raised_share me.0 x c }
+{
+    if me == Party(0) { x.wrapping_add(c) } else { x }
+}
+
+/// What a party opens before a multiplication: its shares of the operands, each less its part of the
+/// triple (Beaver 1991).
+pub fn mul_open(x: u64, y: u64, t: MultTriple) -> (u64, u64)
+    ensures left { result.0 ≡ opened_left x t }
+    ensures right { result.1 ≡ opened_right y t }
+{
+    (x.wrapping_sub(t.a), y.wrapping_sub(t.b))
+}
+
+/// A party's share of the product, where `d` and `e` are the sums of what all parties opened of the
+/// left and of the right operand. Party 0 alone adds `d * e`.
+pub fn mul_close(me: Party, t: MultTriple, d: u64, e: u64) -> u64
+    ensures { result ≡ closed_share me.0 t d e }
+{
+    let share = t
+        .c
+        .wrapping_add(d.wrapping_mul(t.b))
+        .wrapping_add(e.wrapping_mul(t.a));
+    if me == Party(0) {
+        share.wrapping_add(d.wrapping_mul(e))
+    } else {
+        share
+    }
+}
