@@ -1,10 +1,9 @@
 -- Why what the parties make of their shares are shares of what the calls stand for.
-use Rattle.std.proofs.Common.{◌≡◌, ℕ, zero, suc, ◌+◌, ◌-◌, ◌*◌, ◌%◌, ◌^◌, ◌<◌, List, [], ◌∷◌, length, map, zip, refl, sym, ap, ◌∙◌, arith}
-use Rattle.std.proofs.Math.Nat.{add-mod, mod-mod}
+use Rattle.std.proofs.Common.{◌≡◌, ℕ, zero, suc, ◌+◌, ◌*◌, ◌%◌, ◌^◌, ◌<◌, List, [], ◌∷◌, length, map, zip, refl, sym, ◌∙◌, arith}
 use Rattle.std.proofs.Math.Dec.{eqb-suc-zero}
 use Rattle.std.proofs.lemmas.Nat.{mul-mod}
-use Rattle.arithmetic_gmw.specs.Shares.{word_sum, word_difference, word_product, total, Recombines, public_part, raised_share, opened_left, opened_right, closed_share}
-use Rattle.arithmetic_gmw.specs.Laws.{by_number, by_party, SumRecombines, DifferenceRecombines, ScaledRecombines, RaisedRecombines, Factors, IsTriple, ProductRecombines}
+use Rattle.arithmetic_gmw.specs.Shares.{word_sum, word_difference, word_product, total, part_of_public, raised_share, opened_left, opened_right, closed_share}
+use Rattle.arithmetic_gmw.specs.Laws.{by_number, by_party, SumRecombines, DifferenceRecombines, ScaledRecombines, RaisedRecombines, Factors, ProductRecombines}
 
 -- a and b are the same modulo 2^64
 record Same (a b : ℕ) : Type 0 where
@@ -48,7 +47,7 @@ scaled-recombines xs x c p =
     (scaled xs c).is ∙ (times {a = total xs} {b = x} {c = c} {d = c} (record { is = p }) (record { is = refl })).is
 
 -- parties other than the first add nothing of a public number
-no_part : (n c : ℕ) → 0 < n → public_part n c ≡ 0
+no_part : (n c : ℕ) → 0 < n → part_of_public n c ≡ 0
 no_part zero c h = omega arith
 no_part (suc n) c h = rw eqb-suc-zero refl
 

@@ -4,7 +4,7 @@
 
 ghost use Rattle.std.specs.Prelude.{◌≡◌, ◌≢◌, ℕ, ◌<◌, ◌≤◌, IfOk, vec_len, slice_get, remove};
 ghost use Rattle.mot_base.specs.Tape.{share_of_tape};
-ghost use Rattle.arithmetic_gmw.specs.Shares.{word_sum, word_difference, word_product, total, Recombines, raised_share, opened_left, opened_right, closed_share};
+ghost use Rattle.arithmetic_gmw.specs.Shares.{word_sum, word_difference, word_product, total, Recombines, part_of_public, raised_share, opened_left, opened_right, closed_share};
 
 use mot_base::{NoMemory, Party, Seed, tape_share};
 use share_types::MultTriple;
@@ -78,7 +78,7 @@ pub fn mul_const(x: u64, c: u64) -> u64
 pub fn add_const(me: Party, x: u64, c: u64) -> u64
     ensures { result ≡ raised_share me.0 x c }
 {
-    if me == Party(0) { x.wrapping_add(c) } else { x }
+    x.wrapping_add(public_part(me, c))
 }
 
 /// What a party opens before a multiplication: its shares of the operands, each less its part of the
@@ -95,13 +95,17 @@ pub fn mul_open(x: u64, y: u64, t: MultTriple) -> (u64, u64)
 pub fn mul_close(me: Party, t: MultTriple, d: u64, e: u64) -> u64
     ensures { result ≡ closed_share me.0 t d e }
 {
-    let share = t
-        .c
-        .wrapping_add(d.wrapping_mul(t.b))
-        .wrapping_add(e.wrapping_mul(t.a));
-    if me == Party(0) {
-        share.wrapping_add(d.wrapping_mul(e))
-    } else {
-        share
-    }
+    let d_times_b = d.wrapping_mul(t.b);
+    let e_times_a = e.wrapping_mul(t.a);
+    let d_times_e = public_part(me, d.wrapping_mul(e));
+    t.c.wrapping_add(d_times_b)
+        .wrapping_add(e_times_a)
+        .wrapping_add(d_times_e)
+}
+
+/// What a party adds to its share for a public number: party 0 the number, and the others nothing.
+fn public_part(me: Party, number: u64) -> u64
+    ensures { result ≡ part_of_public me.0 number }
+{
+    if me == Party(0) { number } else { 0 }
 }

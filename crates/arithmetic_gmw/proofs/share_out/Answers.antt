@@ -1,7 +1,7 @@
-use Rattle.std.proofs.Common.{◌≡◌, ◌≢◌, ℕ, ◌+◌, ◌-◌, ◌%◌, ◌^◌, ◌<◌, length, Some, refl, ap, sym, ◌∙◌, arith, rules}
+use Rattle.std.proofs.Common.{◌≡◌, ℕ, ◌+◌, ◌^◌, ◌<◌, Some, ap, sym, ◌∙◌, arith, rules}
 use Rattle.std.proofs.lemmas.List.FromFn.{map-range_with_len_more}
-use Rattle.arithmetic_gmw.specs.Shares.{word_difference, total}
-use Rattle.arithmetic_gmw.proofs.Sharing.{word_for, words_for, word_own, word_other, total-push, Sharing, whole, long, other_share, own_share, recombine}
+use Rattle.arithmetic_gmw.specs.Shares.{total}
+use Rattle.arithmetic_gmw.proofs.Sharing.{word_for, word_own, word_other, total-push, whole, long, other_share, own_share, recombine}
 use Rattle.arithmetic_gmw.proofs.share_out.Goals as goal
 use Rattle.arithmetic_gmw.proofs.share_out.Goals.{then-to-me, else-to-me}
 
