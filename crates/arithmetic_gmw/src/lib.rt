@@ -4,6 +4,7 @@
 
 ghost use Rattle.std.specs.Prelude.{◌≡◌, ◌≢◌, ℕ, ◌<◌, ◌≤◌, IfOk, vec_len, slice_get, remove};
 ghost use Rattle.mot_base.specs.Tape.{share_of_tape};
+ghost use Rattle.arithmetic_gmw.specs.Sharing.{word_of, words_of};
 ghost use Rattle.arithmetic_gmw.specs.Shares.{word_sum, word_difference, word_product, total, Recombines, part_of_public, raised_share, opened_left, opened_right, closed_share};
 
 use mot_base::{NoMemory, Party, Seed, tape_share};
@@ -18,6 +19,7 @@ pub use laws::{
 
 /// The shares of `x` that party `me` gives out at a gate of a session, one for each party in order: the
 /// others' are words of the seed's tape, and its own is what they leave of the value.
+#[tactic(auto, using(crate::proofs::Sharing::count_given, crate::proofs::Sharing::others_given, crate::proofs::Sharing::own_given, crate::proofs::Sharing::recombine_given))]
 pub fn share_out(
     alloc: Global,
     x: u64,
@@ -38,19 +40,57 @@ pub fn share_out(
         slice_get shares.items me.0 ≡ Some (word_difference x (total (remove shares.items me.0)))) }
     ensures recombines { IfOk result (λ shares. Recombines shares.items x) }
 {
-    let mut shares = Vec::with_capacity(alloc, usize::from(parties))?;
-    let mut own = x;
-    for to in 0..parties {
-        let share = if to == me.0 {
-            0
-        } else {
-            tape_share(seed, session, gate, Party(to))
-        };
-        own = own.wrapping_sub(share);
-        shares.push(share)?;
-    }
+    let mut shares = words_for(alloc, seed, session, gate, me, parties)?;
+    let own = less(x, &shares);
     shares[usize::from(me.0)] = own;
     Ok(shares)
+}
+
+/// The share words for all parties in order, with nothing in the place of `me`.
+fn words_for(
+    alloc: Global,
+    seed: &Seed,
+    session: u32,
+    gate: u32,
+    me: Party,
+    parties: u8,
+) -> Result<Vec<u64>, NoMemory>
+    requires session { session < 65536 }
+    requires gate { gate < 4194304 }
+    requires parties { parties ≤ 8 }
+    ensures { IfOk result (λ words. words.items ≡ words_of seed.now.0 session gate me.0 parties) }
+{
+    let mut words = Vec::with_capacity(alloc, usize::from(parties))?;
+    for to in 0..parties {
+        words.push(word_for(seed, session, gate, me, Party(to)))?;
+    }
+    Ok(words)
+}
+
+/// The share word for the party `to`, and nothing where this is `me`.
+#[tactic(auto, unfolding(crate::specs::Sharing::word_of))]
+fn word_for(seed: &Seed, session: u32, gate: u32, me: Party, to: Party) -> u64
+    requires session { session < 65536 }
+    requires gate { gate < 4194304 }
+    requires to { to.0 < 8 }
+    ensures { result ≡ word_of seed.now.0 session gate me.0 to.0 }
+{
+    if to == me {
+        0
+    } else {
+        tape_share(seed, session, gate, to)
+    }
+}
+
+/// The value less all the words.
+fn less(x: u64, words: &[u64]) -> u64
+    ensures { result ≡ word_difference x (total words.now) }
+{
+    let mut rest = x;
+    for word in words {
+        rest = rest.wrapping_sub(*word);
+    }
+    rest
 }
 
 /// A party's share of the sum of two shared words.
