@@ -2,8 +2,9 @@
 use Rattle.std.proofs.Common.{◌≡◌, ℕ, zero, suc, ◌+◌, ◌*◌, ◌%◌, ◌^◌, ◌<◌, List, [], ◌∷◌, length, map, zip, refl, sym, ◌∙◌, arith}
 use Rattle.std.proofs.Math.Dec.{eqb-suc-zero}
 use Rattle.std.proofs.lemmas.Nat.{mul-mod}
-use Rattle.arithmetic_gmw.specs.Shares.{word_sum, word_difference, word_product, total, part_of_public, raised_share, opened_left, opened_right, closed_share}
-use Rattle.arithmetic_gmw.specs.Laws.{by_number, by_party, SumRecombines, DifferenceRecombines, ScaledRecombines, RaisedRecombines, Factors, ProductRecombines}
+use Rattle.share_types.specs.declared.MultTriple.{MultTriple}
+use Rattle.arithmetic_gmw.specs.Shares.{word_sum, word_difference, word_product, total, Recombines, part_of_public, raised_share, opened_left, opened_right, closed_share}
+use Rattle.arithmetic_gmw.specs.Laws.{IsTriple, by_number, by_party, SumRecombines, DifferenceRecombines, ScaledRecombines, RaisedRecombines, ProductRecombines}
 
 -- a and b are the same modulo 2^64
 record Same (a b : ℕ) : Type 0 where
@@ -62,51 +63,59 @@ pub raised-recombines : RaisedRecombines
 raised-recombines [] x c h p = omega arith
 raised-recombines (s ∷ xs) x c h p = let rest = (raised_rest xs c 1 (omega arith)).is in omega arith
 
--- the sums of the parties' parts of a triple
-abbrev sum_a : List Factors → ℕ
-sum_a ps = total (map (λ t. t.a) (map (λ p. p.triple) ps))
+-- a multiplication by parties of any kind, each with a share of either operand and a part of a triple
+module _ {P : Type 0} (left right : P → ℕ) (triple : P → MultTriple) where
+  -- the sums of the parties' parts of the triple
+  abbrev sum_a : List P → ℕ
+  sum_a ps = total (map (λ t. t.a) (map triple ps))
 
-abbrev sum_b : List Factors → ℕ
-sum_b ps = total (map (λ t. t.b) (map (λ p. p.triple) ps))
+  abbrev sum_b : List P → ℕ
+  sum_b ps = total (map (λ t. t.b) (map triple ps))
 
-abbrev sum_c : List Factors → ℕ
-sum_c ps = total (map (λ t. t.c) (map (λ p. p.triple) ps))
+  abbrev sum_c : List P → ℕ
+  sum_c ps = total (map (λ t. t.c) (map triple ps))
 
-lefts : (ps : List Factors) →
-    Same (total (map (λ p. opened_left p.left p.triple) ps) + sum_a ps) (total (map (λ p. p.left) ps))
-lefts [] = record { is = refl }
-lefts (p ∷ ps) = let rest = (lefts ps).is in record { is = omega arith }
+  -- what is opened is less by the triple's part than what is shared
+  lefts : (ps : List P) →
+      Same (total (map (λ p. opened_left (left p) (triple p)) ps) + sum_a ps) (total (map left ps))
+  lefts [] = record { is = refl }
+  lefts (p ∷ ps) = let rest = (lefts ps).is in record { is = omega arith }
 
-rights : (ps : List Factors) →
-    Same (total (map (λ p. opened_right p.right p.triple) ps) + sum_b ps) (total (map (λ p. p.right) ps))
-rights [] = record { is = refl }
-rights (p ∷ ps) = let rest = (rights ps).is in record { is = omega arith }
+  rights : (ps : List P) →
+      Same (total (map (λ p. opened_right (right p) (triple p)) ps) + sum_b ps) (total (map right ps))
+  rights [] = record { is = refl }
+  rights (p ∷ ps) = let rest = (rights ps).is in record { is = omega arith }
 
--- the shares of a product of the parties after the first
-closed_rest : (ps : List Factors) (d e n : ℕ) → 0 < n →
-    Same (total (by_number (λ me p. closed_share me p.triple d e) n ps))
-    (sum_c ps + d * sum_b ps + e * sum_a ps)
-closed_rest [] d e n h = record { is = omega arith }
-closed_rest (p ∷ ps) d e n h =
-    let rest = (closed_rest ps d e (n + 1) (omega arith)).is in
-    let nothing = no_part n (d * e) h in record { is = omega arith }
+  -- the closed shares of the parties after the first
+  closed_rest : (ps : List P) (d e n : ℕ) → 0 < n →
+      Same (total (by_number (λ me p. closed_share me (triple p) d e) n ps))
+      (sum_c ps + d * sum_b ps + e * sum_a ps)
+  closed_rest [] d e n h = record { is = omega arith }
+  closed_rest (p ∷ ps) d e n h =
+      let rest = (closed_rest ps d e (n + 1) (omega arith)).is in
+      let nothing = no_part n (d * e) h in record { is = omega arith }
 
-closed : (p : Factors) (ps : List Factors) (d e : ℕ) →
-    Same (total (by_party (λ me q. closed_share me q.triple d e) (p ∷ ps)))
-    (sum_c (p ∷ ps) + d * sum_b (p ∷ ps) + e * sum_a (p ∷ ps) + d * e)
-closed p ps d e = let rest = (closed_rest ps d e 1 (omega arith)).is in record { is = omega arith }
+  -- the closed shares of all parties
+  closed : (p : P) (ps : List P) (d e : ℕ) →
+      Same (total (by_party (λ me q. closed_share me (triple q) d e) (p ∷ ps)))
+      (sum_c (p ∷ ps) + d * sum_b (p ∷ ps) + e * sum_a (p ∷ ps) + d * e)
+  closed p ps d e = let rest = (closed_rest ps d e 1 (omega arith)).is in record { is = omega arith }
+
+  pub product_of : (parties : List P) (x y d e : ℕ) → IsTriple (map triple parties) →
+      Recombines (map left parties) x → Recombines (map right parties) y →
+      Recombines (map (λ p. opened_left (left p) (triple p)) parties) d →
+      Recombines (map (λ p. opened_right (right p) (triple p)) parties) e →
+      Recombines (by_party (λ me p. closed_share me (triple p) d e) parties) (x * y)
+  product_of [] x y d e triples as_x as_y as_d as_e =
+      (times {a = 0} {b = x} {c = 0} {d = y} (record { is = as_x }) (record { is = as_y })).is
+  product_of (p ∷ ps) x y d e triples as_x as_y as_d as_e =
+      let first = (lefts (p ∷ ps)).is in
+      let second = (rights (p ∷ ps)).is in
+      let here = (closed p ps d e).is in
+      let whole_x : Same (d + sum_a (p ∷ ps)) x = record { is = omega arith } in
+      let whole_y : Same (e + sum_b (p ∷ ps)) y = record { is = omega arith } in
+      let product = (times whole_x whole_y).is in
+      omega arith
 
 pub product-recombines : ProductRecombines
-product-recombines [] x y d e triple left right opened_d opened_e =
-    (times {a = 0} {b = x} {c = 0} {d = y} (record { is = left }) (record { is = right })).is
-product-recombines (p ∷ ps) x y d e triple left right opened_d opened_e =
-    let a = sum_a (p ∷ ps) in
-    let b = sum_b (p ∷ ps) in
-    let c = sum_c (p ∷ ps) in
-    let first = (lefts (p ∷ ps)).is in
-    let second = (rights (p ∷ ps)).is in
-    let here = (closed p ps d e).is in
-    let dx : Same (d + a) x = record { is = omega arith } in
-    let ey : Same (e + b) y = record { is = omega arith } in
-    let whole = (times dx ey).is in
-    omega arith
+product-recombines parties = product_of (λ p. p.left) (λ p. p.right) (λ p. p.triple) parties

@@ -39,16 +39,19 @@ unfolding word_of
 word_other seed session gate me to h = rw (ne_eqb to me h) refl
 
 module _ (seed : List ℕ) (session gate me count : ℕ) where
-  length-words_of : length (words_of seed session gate me count) ≡ count
+  abbrev tape_words : List ℕ
+  tape_words = words_of seed session gate me count
+
+  length-words_of : length tape_words ≡ count
   length-words_of = length-map-range_with_len (word_of seed session gate me) 0 count
 
   word_at : (to : ℕ) → to < count →
-      get_or (words_of seed session gate me count) to 0 ≡ word_of seed session gate me to
+      get_or tape_words to 0 ≡ word_of seed session gate me to
   word_at to h = get_or-map-range_with_len (word_of seed session gate me) 0 count to to 0 h (omega arith)
 
   -- `own` in the place of `me`
   abbrev shares : ℕ → List ℕ
-  shares own = set (words_of seed session gate me count) me own
+  shares own = set tape_words me own
 
   length-shares : (own : ℕ) → length (shares own) ≡ count
   length-shares own = simp length-set length-words_of
@@ -58,27 +61,27 @@ module _ (seed : List ℕ) (session gate me count : ℕ) where
   other_share own to h other =
       let inside : to < length (shares own) = rw (length-shares own) h in
       slice_get-get_or (shares own) to 0 inside ∙ ap (λ (v : ℕ). Some v)
-      (get_or-set_other (words_of seed session gate me count) me to own 0 other ∙ (word_at to h ∙ word_other seed session gate me to other))
+      (get_or-set_other tape_words me to own 0 other ∙ (word_at to h ∙ word_other seed session gate me to other))
 
-  module _ (x own : ℕ) (h : me < count) (less : own ≡ word_difference x (total (words_of seed session gate me count))) where
-    inside : me < length (words_of seed session gate me count)
+  module _ (x own : ℕ) (h : me < count) (less : own ≡ word_difference x (total tape_words)) where
+    inside : me < length tape_words
     inside = rw length-words_of h
 
-    nothing : get_or (words_of seed session gate me count) me 0 ≡ 0
+    nothing : get_or tape_words me 0 ≡ 0
     nothing = word_at me h ∙ word_own seed session gate me
 
     own_share : slice_get (shares own) me ≡ Some (word_difference x (total (remove (shares own) me)))
     own_share =
         let here : me < length (shares own) = rw (length-shares own) h in
-        let whole = total-remove (words_of seed session gate me count) me own inside in
+        let whole = total-remove tape_words me own inside in
         let before = nothing in
-        let others : total (words_of seed session gate me count) ≡ total (remove (shares own) me) = omega arith in
+        let others : total tape_words ≡ total (remove (shares own) me) = omega arith in
         slice_get-get_or (shares own) me 0 here ∙ ap (λ (v : ℕ). Some v)
-        (get_or-set_same (words_of seed session gate me count) me own 0 inside ∙ (less ∙ ap (word_difference x) others))
+        (get_or-set_same tape_words me own 0 inside ∙ (less ∙ ap (word_difference x) others))
 
     recombine : Recombines (shares own) x
     recombine =
-        let whole = total-set (words_of seed session gate me count) me own inside in
+        let whole = total-set tape_words me own inside in
         let before = nothing in
         omega arith
 

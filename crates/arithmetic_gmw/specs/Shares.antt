@@ -31,11 +31,11 @@ part_of_public me c = if nat_eq me 0 then c else 0
 abbrev pub raised_share : ℕ → ℕ → ℕ → ℕ
 raised_share me x c = word_sum x (part_of_public me c)
 
--- what a party opens of the left operand of a product: its share less its part of the triple's left
+-- what a party opens of the left operand of a product: its share less its part of the triple's a
 abbrev pub opened_left : ℕ → MultTriple → ℕ
 opened_left x t = word_difference x t.a
 
--- what a party opens of the right operand of a product
+-- what a party opens of the right operand of a product: its share less its part of the triple's b
 abbrev pub opened_right : ℕ → MultTriple → ℕ
 opened_right y t = word_difference y t.b
 

@@ -3,7 +3,7 @@ use Rattle.std.specs.Prelude.{ℕ, List, map, nat_eq, if◌then◌else◌}
 use Rattle.std.specs.List.{range_with_len}
 use Rattle.mot_base.specs.Tape.{share_of_tape}
 
--- the share word for a party, and nothing for the party `me` that gives out
+-- the share word for a party, and 0 for the party `me` that gives out
 unfoldable pub word_of : List ℕ → ℕ → ℕ → ℕ → ℕ → ℕ
 word_of seed session gate me to = if nat_eq to me then 0 else share_of_tape seed session gate to
 

@@ -46,7 +46,7 @@ pub fn share_out(
     Ok(shares)
 }
 
-/// The share words for all parties in order, with nothing in the place of `me`.
+/// The share words for all parties in order, with 0 in the place of `me`.
 fn words_for(
     alloc: Global,
     seed: &Seed,
@@ -67,7 +67,7 @@ fn words_for(
     Ok(words)
 }
 
-/// The share word for the party `to`, and nothing where this is `me`.
+/// The share word for the party `to`, and 0 where this is `me`.
 #[tactic(auto, unfolding(crate::specs::Sharing::word_of))]
 fn word_for(seed: &Seed, session: u32, gate: u32, me: Party, to: Party) -> u64
     requires session { session < 65536 }
