@@ -1,0 +1,6 @@
+//! What the program does with its words.
+#![tactic(auto)]
+
+mod words;
+
+pub use words::{Command, LocalWords, read_command, read_local};
