@@ -1,5 +1,6 @@
 -- What the words after the program's name ask for. A word is a text, seen as the list of its bytes.
 use Rattle.std.specs.Prelude.{◌≡◌, ◌≢◌, ◌<◌, ℕ, ◌==◌, ◌&&◌, Bool, true, false, not, if◌then◌else◌, List, [], ◌∷◌, length, slice_get, bytes_eq, codes, Option, Some, None, option_map, Ok, map, String, string_bytes}
+use Rattle.std.specs.Str.{byte}
 use Rattle.std.specs.Result.{result_ok}
 use Rattle.hex.specs.Hex.{decode_of}
 use Rattle.motion_cli.specs.declared.words.Command.{Command}
@@ -25,7 +26,7 @@ pub data Request : Type 0 where
 
 -- the word is longer than one byte and begins with `-`: such a word is no name, but an option
 abbrev pub IsOption : List ℕ → Type 0
-IsOption word = (1 < length word) × (slice_get word 0 ≡ Some 45)
+IsOption word = (1 < length word) × (slice_get word 0 ≡ Some (byte "-"))
 
 -- the word is a name: it is not empty, and no option
 abbrev pub IsName : List ℕ → Type 0
@@ -55,8 +56,8 @@ AsksFor words (local request) =
 -- whether a word is a name
 abbrev pub is_name : List ℕ → Bool
 is_name [] = false
-is_name (byte ∷ []) = true
-is_name (byte ∷ next ∷ rest) = not (byte == 45)
+is_name (first ∷ []) = true
+is_name (first ∷ second ∷ rest) = not (first == byte "-")
 
 -- the bytes of a seed, if the word is one
 abbrev pub seed_of : List ℕ → Option (List ℕ)
