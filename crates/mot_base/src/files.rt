@@ -2,7 +2,7 @@ ghost use Rattle.std.specs.Prelude.{◌≡◌, ℕ, ◌≤◌, ◌⊎◌, Option
 ghost use Rattle.mot_base.specs.Faults.{Rose};
 ghost use Rattle.mot_base.specs.Files.{Holding, IsAnswerFor};
 
-use std::alloc::Global;
+use std::alloc::{AllocError, Global};
 
 /// The greatest number of bytes that a file may have to be loaded.
 pub const MAX_FILE_LENGTH: usize = 67_108_864;
@@ -18,6 +18,17 @@ pub enum FileError {
     TooLong,
     /// Memory ran out.
     NoMemory,
+}
+
+impl From<AllocError> for FileError {
+    ghost use Rattle.std.specs.Prelude.{◌≡◌};
+    ghost use Rattle.mot_base.specs.declared.files.FileError.TheVariants.{NoMemory};
+
+    ghost from_gives = { λ _ error. error ≡ NoMemory };
+
+    fn from(_error: AllocError) -> FileError {
+        FileError::NoMemory
+    }
 }
 
 /// Named files.

@@ -8,10 +8,14 @@ ghost use Rattle.mot_base.specs.declared.NoMemory.{NoMemory};
 use std::alloc::{AllocError, AllocFailed};
 
 mod files;
+mod host;
+mod memory;
 mod sink;
 mod tapes;
 
 pub use files::{FileError, Files, MAX_FILE_LENGTH};
+pub use host::{HostFiles, HostSink};
+pub use memory::{MemFiles, MemSink};
 pub use sink::{Sink, WriteFailed, write_all};
 pub use tapes::{derive, tape_share, tape_word};
 
