@@ -9,13 +9,15 @@ use std::alloc::{AllocError, AllocFailed};
 
 mod files;
 mod host;
-mod memory;
+mod mem_files;
+mod mem_sink;
 mod sink;
 mod tapes;
 
 pub use files::{FileError, Files, MAX_FILE_LENGTH};
 pub use host::{HostFiles, HostSink};
-pub use memory::{MemFiles, MemSink};
+pub use mem_files::MemFiles;
+pub use mem_sink::MemSink;
 pub use sink::{Sink, WriteFailed, write_all};
 pub use tapes::{derive, tape_share, tape_word};
 

@@ -3,7 +3,7 @@ use Rattle.std.proofs.lemmas.Option.{gets}
 use Rattle.std.proofs.lemmas.Grind.{common_steps}
 use Rattle.std.specs.Str.{bytes_eq}
 use Rattle.mot_base.proofs.Shelves.{absent, present}
-use Rattle.mot_base.proofs.memory.MemFiles.get.Goals as goal
+use Rattle.mot_base.proofs.mem_files.MemFiles.get.Goals as goal
 
 pub returns-in_err-place : goal.returns-in_err-place
 returns-in_err-place c =

@@ -1,6 +1,6 @@
 use Rattle.std.proofs.Common.{rules}
 use Rattle.mot_base.proofs.Shelves.{passes}
-use Rattle.mot_base.proofs.memory.MemFilesFiles.load.Goals as goal
+use Rattle.mot_base.proofs.mem_files.MemFilesFiles.load.Goals as goal
 
 pub returns-in_err-from_slice-in-Some-2-clause-failed :
     goal.returns-in_err-from_slice-in-Some-2-clause-failed

@@ -1,0 +1,8 @@
+//! Tests of the lowest libraries: what no contract says by itself, as values of public standards and
+//! that the calls succeed.
+#![tactic(auto)]
+
+#[cfg(test)]
+mod outside;
+#[cfg(test)]
+mod tapes;
