@@ -19,8 +19,8 @@ pub take-rest : (w : ℕ) (xs : List ℕ) → take (length xs - w) (drop w xs) �
 take-rest w xs = take_all (length xs - w) (drop w xs) (omega (arith, length-drop w xs))
 
 -- some first bytes of the rest were appended
-pub HasWritten-more : (before now next : Option (List ℕ)) (xs : List ℕ) (w n : ℕ) → HasWritten before now xs w → n ≤ length (take (length xs - w) (drop w xs)) → next ≡ with_more now (take n (take (length xs - w) (drop w xs))) → HasWritten before next xs (w + n)
-HasWritten-more before now next xs w n first fits more =
+pub written_more : (before now next : Option (List ℕ)) (xs : List ℕ) (w n : ℕ) → HasWritten before now xs w → n ≤ length (take (length xs - w) (drop w xs)) → next ≡ with_more now (take n (take (length xs - w) (drop w xs))) → HasWritten before next xs (w + n)
+written_more before now next xs w n first fits more =
     let rest = take-rest w xs in
     let short : n ≤ length (drop w xs) = rw rest at fits in
     record {
