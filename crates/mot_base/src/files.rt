@@ -1,4 +1,4 @@
-ghost use Rattle.std.specs.Prelude.{◌≡◌, ℕ, ◌≤◌, ◌⊎◌, Option, IfOk, IfSome, IsErrOf, vec_len};
+ghost use Rattle.std.specs.Prelude.{◌≡◌, ℕ, ◌≤◌, Option, IfOk, IfSome, IsErrOf, vec_len};
 ghost use Rattle.mot_base.specs.Faults.{Rose};
 ghost use Rattle.mot_base.specs.Files.{Holding, IsAnswerFor};
 
