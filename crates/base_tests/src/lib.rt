@@ -3,4 +3,8 @@
 #![tactic(auto)]
 
 #[cfg(test)]
+mod outside;
+#[cfg(test)]
 mod shares;
+#[cfg(test)]
+mod tapes;

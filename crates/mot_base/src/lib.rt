@@ -7,8 +7,18 @@ ghost use Rattle.mot_base.specs.declared.NoMemory.{NoMemory};
 
 use std::alloc::{AllocError, AllocFailed};
 
+mod files;
+mod host;
+mod mem_files;
+mod mem_sink;
+mod sink;
 mod tapes;
 
+pub use files::{FileError, Files, MAX_FILE_LENGTH};
+pub use host::{HostFiles, HostSink};
+pub use mem_files::MemFiles;
+pub use mem_sink::MemSink;
+pub use sink::{Sink, WriteFailed, write_all};
 pub use tapes::{derive, tape_share, tape_word};
 
 /// The number of a party, from 0. A run has 2 to 8 parties; that the number is below theirs is a
