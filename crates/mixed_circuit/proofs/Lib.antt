@@ -2,3 +2,4 @@ mod TextLemmas
 mod WordLemmas
 mod CircuitLemmas
 mod ReadingLemmas
+mod ReadLemmas

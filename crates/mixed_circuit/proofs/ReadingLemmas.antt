@@ -1,26 +1,28 @@
 -- The words of a line that is said, one by one.
-use Rattle.std.proofs.Common.{ℕ, ◌≡◌, ◌≢◌, ◌<◌, ◌≤◌, List, [], ◌∷◌, ◌-◌, length, map, take, drop, get_or, Option, Some, None, true, false, refl, sym, ◌∙◌, ap, ap₂, subst, arith, Bor, Bool}
-use Rattle.std.specs.Prelude.{IfNone, MatchOption, codes, is_some, option_and_then}
+use Rattle.std.proofs.Common.{ℕ, ◌≡◌, ◌≢◌, ◌<◌, ◌≤◌, List, [], ◌∷◌, ◌-◌, length, map, take, drop, get_or, Option, Some, None, Result, Ok, Err, true, false, refl, sym, ◌∙◌, ap, ap₂, add-one, subst, ◌+◌, arith, cond, Bor, Bool}
+use Rattle.std.specs.Prelude.{◌==◌, IfNone, IfOk, MatchOption, codes, is_some, option_and_then}
+use Rattle.std.specs.List.{list_all}
 use Rattle.std.specs.Str.{bytes_eq}
 use Rattle.std.proofs.lemmas.Bool.{false≢true}
 use Rattle.std.proofs.lemmas.Slice.Eq.{bytes_eq-Decides}
-use Rattle.std.proofs.Math.Seq.{take-length}
+use Rattle.std.proofs.Math.Seq.{take-length, drop-cons}
 use Rattle.mot_base.specs.declared.Party.{Party}
 use Rattle.share_types.specs.declared.WireType.TheVariants.{A}
 use Rattle.mixed_circuit.specs.declared.circuit.Form.{Form}
 use Rattle.mixed_circuit.specs.declared.circuit.Form.TheVariants.{InputA, AddA, SubA, MulA, Output}
 use Rattle.mixed_circuit.specs.declared.read.Operation.{Operation}
 use Rattle.mixed_circuit.specs.declared.read.Operation.TheVariants.{Input, Add, Sub, Mul}
-use Rattle.mixed_circuit.specs.Text.{Text}
+use Rattle.mixed_circuit.specs.Text.{Text, line_words}
 use Rattle.mixed_circuit.specs.declared.circuit.Receiver.{Receiver}
 use Rattle.mixed_circuit.specs.declared.circuit.Receiver.TheVariants.{All, One}
 use Rattle.mixed_circuit.specs.declared.read.Said.{Said}
+use Rattle.mixed_circuit.specs.declared.read.CircuitError.{CircuitError}
 use Rattle.share_types.specs.declared.WireType.{WireType}
 use Rattle.mixed_circuit.specs.Word.{is_name, number_of}
-use Rattle.mixed_circuit.specs.Circuit.{Circuit, Statement, IsCircuit, Follows, wire_of, wire_at, place_of}
-use Rattle.mixed_circuit.specs.Grammar.{Spell, Spells, spelling, receiver_piece}
-use Rattle.mixed_circuit.specs.SoFar.{is_told_to_all}
-use Rattle.mixed_circuit.specs.Reading.{SaysValue, SaysInput, SaysPair, SaysAssigned, SaysOutput, SaysSoFar, operation_word}
+use Rattle.mixed_circuit.specs.Circuit.{Circuit, Statement, IsCircuit, Follows, wire_of, wire_at, place_of, with_statement}
+use Rattle.mixed_circuit.specs.Grammar.{Spell, Spells, spelling, receiver_piece, content, some_words}
+use Rattle.mixed_circuit.specs.SoFar.{is_told_to_all, no_hexadecimal}
+use Rattle.mixed_circuit.specs.Reading.{SaysValue, SaysInput, SaysPair, SaysAssigned, SaysOutput, SaysSoFar, AddsLine, Adds, operation_word}
 use Rattle.mixed_circuit.proofs.CircuitLemmas.{place_of-name, place_of-named}
 
 pub if_none : {X : Type 0} (o : Option X) {P : Type 0} → P → IfNone o P
@@ -227,7 +229,7 @@ assigned_is c first second rest (Output x to) e h = cc
 pub said_assigned : (c : Circuit) (ws : List (Bor Text)) (form : Form) → 2 ≤ length ws → second_word ws ≡ codes "=" → SaysAssigned c (first_word ws) (third_words ws) form → SaysSoFar c (map (λ w. w.now) ws) (record { name = first_word ws; wire = Some A; form = form })
 said_assigned c ws form two e h = subst (λ line. SaysSoFar c line (record { name = first_word ws; wire = Some A; form = form })) (sym (words-two ws two)) (assigned_is c (first_word ws) (second_word ws) (third_words ws) form e h)
 
-same_number : {m n : ℕ} → Some m ≡ Some n → m ≡ n
+pub same_number : {m n : ℕ} → Some m ≡ Some n → m ≡ n
 same_number e = cc
 
 -- the same words say one form
@@ -265,3 +267,106 @@ value_unique c (word ∷ rest) f g h k =
 
 output_unique : (c : Circuit) (word operand : Text) (receiver : List Text) (f g : Form) → SaysOutput c word operand receiver f → SaysOutput c word operand receiver g → f ≡ g
 output_unique c word operand receiver f g h k = h.4 ∙ ap (λ (x : ℕ). Output x All) (same_number (sym h.3 ∙ k.3)) ∙ sym k.4
+
+abbrev pub statement : Text → Option WireType → Form → Statement
+statement name wire form = record { name = name; wire = wire; form = form }
+
+-- the same words say one statement
+same_statement : (s t : Statement) → s.name ≡ t.name → s.wire ≡ t.wire → s.form ≡ t.form → s ≡ t
+same_statement s t name wire form =
+    ap (λ (n : Text). statement n s.wire s.form) name ∙ ap (λ (w : Option WireType). statement t.name w s.form) wire ∙ ap (λ (f : Form). statement t.name t.wire f) form
+
+assigned_name : (c : Circuit) (first second : Text) (rest : List Text) (name : Text) (wire : Option WireType) (form : Form) → IsCircuit c → second ≡ codes "=" → SaysSoFar c (first ∷ second ∷ rest) (record { name = name; wire = wire; form = form }) → name ≡ first
+assigned_name c first second rest name wire (InputA party) circuit e h = let is = h.0.0.1 in cc
+assigned_name c first second rest name wire (AddA x y) circuit e h = let is = h.0.0.1 in cc
+assigned_name c first second rest name wire (SubA x y) circuit e h = let is = h.0.0.1 in cc
+assigned_name c first second rest name wire (MulA x y) circuit e h = let is = h.0.0.1 in cc
+assigned_name c first second rest name wire (Output x to) circuit e h = absurd (false≢true (subst (λ (text : Text). is_name text ≡ true) e (place_of-name c second x circuit h.0.0.1.0)))
+
+output_name : (before : List Statement) (s : Statement) (x : ℕ) → s.form ≡ Output x All → s.wire ≡ wire_of s.form → MatchOption s.wire (s.name ≡ []) (λ _. (is_name s.name ≡ true) × (place_of before s.name ≡ None)) → (s.name ≡ []) × (s.wire ≡ None)
+output_name before s x e shared named =
+    let none : s.wire ≡ None = shared ∙ ap wire_of e in
+    let Named : Option WireType → Type 0 = λ w. MatchOption w (s.name ≡ []) (λ _. (is_name s.name ≡ true) × (place_of before s.name ≡ None)) in
+    (subst Named none named, none)
+
+statement_unique : (c : Circuit) (first second : Text) (rest : List Text) (s t : Statement) (b : Bool) → bytes_eq second (codes "=") ≡ b → IsCircuit c → SaysSoFar c (first ∷ second ∷ rest) s → SaysSoFar c (first ∷ second ∷ rest) t → s ≡ t
+statement_unique c first second rest s t true b circuit h k =
+    let e = (bytes_eq-Decides second (codes "=")).0 b in
+    let assigned = assigned_said c first second rest s.name s.wire s.form circuit e h in
+    let again = assigned_said c first second rest t.name t.wire t.form circuit e k in
+    same_statement s t (assigned_name c first second rest s.name s.wire s.form circuit e h ∙ sym (assigned_name c first second rest t.name t.wire t.form circuit e k))
+    (h.0.1.shared ∙ assigned.2.0 ∙ sym (k.0.1.shared ∙ again.2.0))
+    (value_unique c rest s.form t.form assigned.2 again.2)
+statement_unique c first second rest s t false b circuit h k =
+    let other : second ≡ codes "=" → ⊥ = λ e. false≢true (sym b ∙ (bytes_eq-Decides second (codes "=")).1 e) in
+    let said = output_said c first second rest s.name s.wire s.form other h in
+    let again = output_said c first second rest t.name t.wire t.form other k in
+    let one = output_name c.statements s said.2 said.4 h.0.1.shared h.0.1.named in
+    let two = output_name c.statements t again.2 again.4 k.0.1.shared k.0.1.named in
+    same_statement s t (one.0 ∙ sym two.0) (one.1 ∙ sym two.1) (output_unique c first second rest s.form t.form said again)
+
+pub said_unique : (c : Circuit) (line : List Text) (s t : Statement) → IsCircuit c → SaysSoFar c line s → SaysSoFar c line t → s ≡ t
+said_unique c [] s t circuit h k = absurd (no_words (said_words c [] s.name s.wire s.form h))
+  where
+    no_words : 2 ≤ length {A = Text} [] → ⊥
+    no_words le = omega arith
+said_unique c (first ∷ []) s t circuit h k = absurd (one_word first (said_words c (first ∷ []) s.name s.wire s.form h))
+  where
+    one_word : (first : Text) → 2 ≤ length (first ∷ []) → ⊥
+    one_word first le = omega arith
+said_unique c (first ∷ second ∷ rest) s t circuit h k = statement_unique c first second rest s t _ refl circuit h k
+
+-- and so add one
+pub adds_line_unique : (c : Circuit) (line : List Text) (a b : Circuit) → IsCircuit c → AddsLine c line a → AddsLine c line b → a ≡ b
+adds_line_unique c line a b circuit h k = h.3 ∙ ap (λ s. with_statement c s) (said_unique c line h.0 k.0 circuit h.1 k.1) ∙ sym k.3
+
+-- a blank line says nothing, and any other its words
+pub content_blank : (line : Text) (more : List Text) → line_words line ≡ [] → content (line ∷ more) ≡ content more
+content_blank line more e = ap (λ (words : List Text). cond (some_words words) (words ∷ content more) (content more)) e
+
+pub content_some : (line : Text) (more : List Text) (words : List Text) → line_words line ≡ words → some_words words ≡ true → content (line ∷ more) ≡ words ∷ content more
+content_some line more words e some = ap (λ (words : List Text). cond (some_words words) (words ∷ content more) (content more)) e ∙ ap (λ b. cond b (words ∷ content more) (content more)) some
+
+pub some_from_length : (ws : List (Bor Text)) → (length ws == 0) ≡ false → some_words (map (λ w. w.now) ws) ≡ true
+some_from_length [] h = cc
+some_from_length (w ∷ ws) h = refl
+
+-- what is added by a line of text is added by its words
+pub text_to : (c : Circuit) (line : Text) (words : List Text) (o : Result Circuit CircuitError) → IsCircuit c → line_words line ≡ words → some_words words ≡ true → IfOk o (λ after. AddsLine c words after) → IfOk o (λ next. (more : List Text) (after : Circuit) → Adds c (content (line ∷ more)) after → Adds next (content more) after)
+text_to c line words (Ok next) circuit e some adds = λ more after all.
+    let split = subst (λ lines. Adds c lines after) (content_some line more words e some) all in
+    subst (λ (mid : Circuit). Adds mid (content more) after) (adds_line_unique c words split.0 next circuit split.1 adds) split.2
+text_to c line words (Err error) circuit e some adds = tt
+
+pub text_refused : (c : Circuit) (line : Text) (words : List Text) → line_words line ≡ words → some_words words ≡ true → ((after : Circuit) → AddsLine c words after → ⊥) → (more : List Text) (after : Circuit) → Adds c (content (line ∷ more)) after → ⊥
+text_refused c line words e some none more after all =
+    let split = subst (λ lines. Adds c lines after) (content_some line more words e some) all in
+    none split.0 split.1
+
+-- what all lines add to a circuit is what those that are left add to the circuit so far, and no number
+-- before them is hexadecimal
+pub record IsReadTo (first : Circuit) (lines : List Text) (c : Circuit) (rest : List Text) : Type 0 where
+  pub to : (after : Circuit) → Adds first (content lines) after → Adds c (content rest) after
+  pub from : (after : Circuit) → Adds c (content rest) after → Adds first (content lines) after
+  pub numbers : list_all no_hexadecimal (content lines) ≡ list_all no_hexadecimal (content rest)
+
+pub read_more : (first : Circuit) (lines : List Text) (c next : Circuit) (line : Text) (more : List Text) → IsReadTo first lines c (line ∷ more)
+    → ((rest : List Text) (after : Circuit) → Adds c (content (line ∷ rest)) after → Adds next (content rest) after)
+    → ((rest : List Text) (after : Circuit) → Adds next (content rest) after → Adds c (content (line ∷ rest)) after)
+    → ((rest : List Text) → list_all no_hexadecimal (content (line ∷ rest)) ≡ list_all no_hexadecimal (content rest))
+    → IsReadTo first lines next more
+read_more first lines c next line more before to from numbers = record {
+  to = λ after adds. to more after (before.to after adds);
+  from = λ after adds. before.from after (from more after adds);
+  numbers = before.numbers ∙ numbers more;
+}
+
+rest-at : (ws : List (Bor Text)) (i : ℕ) (d : Bor Text) → i < length ws → drop i ws ≡ get_or ws i d ∷ drop (i + 1) ws
+rest-at ws i d h = rw (add-one, drop-cons ws i d) refl
+
+pub rest-cons : (ws : List (Bor Text)) (i : ℕ) (d : Bor Text) → i < length ws → map (λ w. w.now) (drop i ws) ≡ (get_or ws i d).now ∷ map (λ w. w.now) (drop (i + 1) ws)
+rest-cons ws i d h = ap (λ (rest : List (Bor Text)). map (λ w. w.now) rest) (rest-at ws i d h)
+
+-- the lines before those that are left are blank
+pub record AreBlankTo (lines rest : List Text) : Type 0 where
+  pub same : content lines ≡ content rest

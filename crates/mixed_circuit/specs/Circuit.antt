@@ -77,6 +77,10 @@ pub record IsCircuit (c : Circuit) : Type 0 where
   pub few : length c.statements ≤ max_statements
   pub each : (at : ℕ) (s : Statement) → slice_get c.statements at ≡ Some s → Follows c.parties (take at c.statements) s
 
+-- the circuit of no statement
+abbrev pub no_statements : ℕ → Circuit
+no_statements parties = record { parties = parties; statements = [] }
+
 -- the circuit with one statement more
 abbrev pub with_statement : Circuit → Statement → Circuit
 with_statement c s = record c { statements = c.statements ++ s ∷ [] }

@@ -70,7 +70,7 @@ pub record Reads (text : Text) (c : Circuit) : Type 0 where
   pub bytes : list_all is_allowed text ≡ true
   pub number : Text
   pub body : List (List Text)
-  pub content : content (lines text) ≡ (codes "mixed" ∷ codes "1" ∷ []) ∷ (codes "parties" ∷ number ∷ []) ∷ body
+  pub read : content (lines text) ≡ (codes "mixed" ∷ codes "1" ∷ []) ∷ (codes "parties" ∷ number ∷ []) ∷ body
   pub parties : number_of number ≡ Some c.parties
   pub some_parties : 2 ≤ c.parties
   pub most_parties : c.parties ≤ 8

@@ -1,5 +1,6 @@
 -- What the parts of the reader give.
 use Rattle.std.specs.Prelude.{ℕ, ◌≡◌, ◌<◌, List, [], ◌∷◌, length, Some, None, true, codes}
+use Rattle.std.specs.List.{list_all}
 use Rattle.share_types.specs.declared.WireType.TheVariants.{A}
 use Rattle.mixed_circuit.specs.declared.circuit.Form.{Form}
 use Rattle.mixed_circuit.specs.declared.circuit.Form.TheVariants.{InputA, Output}
@@ -8,9 +9,9 @@ use Rattle.mixed_circuit.specs.declared.read.Operation.{Operation}
 use Rattle.mixed_circuit.specs.declared.read.Operation.TheVariants.{Input, Add, Sub, Mul}
 use Rattle.mixed_circuit.specs.Text.{Text}
 use Rattle.mixed_circuit.specs.Word.{is_name, number_of}
-use Rattle.mixed_circuit.specs.Circuit.{Circuit, Statement, wire_of, IsAllowed, AreShared, place_of, max_statements, with_statement}
-use Rattle.mixed_circuit.specs.Grammar.{Spell, spelling, Says}
-use Rattle.mixed_circuit.specs.SoFar.{is_told_to_all}
+use Rattle.mixed_circuit.specs.Circuit.{Circuit, Statement, wire_of, IsAllowed, AreShared, place_of, max_statements, with_statement, no_statements}
+use Rattle.mixed_circuit.specs.Grammar.{Spell, spelling, Says, content}
+use Rattle.mixed_circuit.specs.SoFar.{is_told_to_all, no_hexadecimal}
 
 -- the word of an operation
 abbrev pub operation_word : Operation → Text
@@ -50,3 +51,17 @@ SaysSoFar c line s = Says c.parties c.statements line s × (is_told_to_all s.for
 -- the circuit with a statement more, which a line says
 abbrev pub AddsLine : Circuit → List Text → Circuit → Type 0
 AddsLine c line after = (s : Statement) × SaysSoFar c line s × (length c.statements < max_statements) × (after ≡ with_statement c s)
+
+-- the circuit with a statement more for each line, which the line says
+abbrev pub Adds : Circuit → List (List Text) → Circuit → Type 0
+Adds c [] after = after ≡ c
+Adds c (line ∷ lines) after = (next : Circuit) × AddsLine c line next × Adds next lines after
+
+-- lines read as a circuit, as far as circuits are read
+pub record ReadsLines (lines : List Text) (c : Circuit) : Type 0 where
+  pub number : Text
+  pub body : List (List Text)
+  pub read : content lines ≡ (codes "mixed" ∷ codes "1" ∷ []) ∷ (codes "parties" ∷ number ∷ []) ∷ body
+  pub parties : number_of number ≡ Some 2
+  pub statements : Adds (no_statements 2) body c
+  pub numbers : list_all no_hexadecimal (content lines) ≡ true

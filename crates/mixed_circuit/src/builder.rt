@@ -1,7 +1,7 @@
 ghost use Rattle.std.specs.Prelude.{◌≡◌, ◌<◌, ◌≤◌, [], true, length, Some, None, IfSome, IfOk, IfNone, IsTrue, ◌↔◌, ◌≢◌, ℕ};
 ghost use Rattle.share_types.specs.declared.WireType.{WireType};
 ghost use Rattle.share_types.specs.declared.WireType.TheVariants.{A};
-ghost use Rattle.mixed_circuit.specs.Circuit.{IsCircuit, Follows, place_of, wire_at, max_statements, with_statement};
+ghost use Rattle.mixed_circuit.specs.Circuit.{no_statements, IsCircuit, Follows, place_of, wire_at, max_statements, with_statement};
 
 use crate::circuit::{Form, MAX_STATEMENTS, Mixed, Statement};
 use crate::word::{is_name_word, text_of};
@@ -34,8 +34,7 @@ impl Builder {
     pub fn new(alloc: Global, parties: u8) -> Builder
         requires some { 2 ≤ parties }
         requires most { parties ≤ 8 }
-        ensures parties { result.parties ≡ parties }
-        ensures statements { result.statements ≡ [] }
+        ensures { result ≡ no_statements parties }
     {
         Builder {
             circuit: Mixed::new(alloc, parties),

@@ -1,10 +1,11 @@
-ghost use Rattle.std.specs.Prelude.{ℕ, ◌≡◌, ◌≤◌, ◌<◌, ◌↔◌, ◌&&◌, true, [], ◌∷◌, length, map, Some, IfSome, IfNone, IfOk, OnOk, not, IsErrOf, IsTrue, false, codes};
+ghost use Rattle.std.specs.Prelude.{ℕ, List, ◌≡◌, ◌≤◌, ◌<◌, ◌↔◌, ◌&&◌, true, [], ◌∷◌, length, map, Some, IfSome, IfNone, IfOk, OnOk, not, IsErrOf, IsTrue, false, codes};
 ghost use Rattle.std.specs.List.{list_all};
-ghost use Rattle.mixed_circuit.specs.Text.{is_allowed, line_words};
+ghost use Rattle.mixed_circuit.specs.Text.{Text, is_allowed, line_words};
+ghost use Rattle.mixed_circuit.specs.Grammar.{content, Reads};
 ghost use Rattle.mixed_circuit.specs.Word.{number_of, begins_hexadecimal};
-ghost use Rattle.mixed_circuit.specs.Circuit.{Circuit, Statement, IsCircuit};
-ghost use Rattle.mixed_circuit.specs.Reading.{SaysSoFar, AddsLine, SaysAssigned, SaysOutput, SaysValue, SaysInput, SaysPair, operation_word, IsPartiesLine};
-ghost use Rattle.mixed_circuit.specs.SoFar.{no_comment, no_hexadecimal};
+ghost use Rattle.mixed_circuit.specs.Circuit.{Circuit, Statement, IsCircuit, no_statements};
+ghost use Rattle.mixed_circuit.specs.Reading.{ReadsLines, SaysSoFar, AddsLine, Adds, SaysAssigned, SaysOutput, SaysValue, SaysInput, SaysPair, operation_word, IsPartiesLine};
+ghost use Rattle.mixed_circuit.specs.SoFar.{IsReadSoFar, no_comment, no_hexadecimal};
 ghost use Rattle.mixed_circuit.specs.declared.circuit.Form.{Form};
 ghost use Rattle.mixed_circuit.specs.declared.read.Operation.{Operation};
 
@@ -35,27 +36,36 @@ impl From<AllocError> for CircuitError {
     }
 }
 
+/// The number of parties of the circuits that are read so far.
+const PARTIES_SO_FAR: u8 = 2;
+
 /// Reads a circuit in mixed text.
 pub fn read_mixed(alloc: Global, bytes: &[u8]) -> Result<Mixed, CircuitError>
     requires { length bytes.now ≤ 67108864 }
+    ensures accepted { IfOk result (λ c. Reads bytes.now c × IsReadSoFar bytes.now c) }
+    ensures refused { IsErrOf result CircuitError.Refused → (c : Circuit) → Reads bytes.now c → IsReadSoFar bytes.now c → ⊥ }
 {
     if !is_text_so_far(bytes) {
         return Err(CircuitError::Refused);
     }
     let lines = lines_of(alloc, bytes)?;
-    let Some((first, rest)) = next_line(alloc, lines.as_slice())? else {
-        return Err(CircuitError::Refused);
-    };
+    read_lines(alloc, lines.as_slice())
+}
+
+/// Reads a circuit from the lines of its text.
+fn read_lines(alloc: Global, lines: &[&[u8]]) -> Result<Mixed, CircuitError>
+    ensures ok { IfOk result (λ c. ReadsLines (map (λ line. line.now) lines.now) c) }
+    ensures refused { IsErrOf result CircuitError.Refused → (c : Circuit) → ReadsLines (map (λ line. line.now) lines.now) c → ⊥ }
+{
+    let (first, rest) = header_line(alloc, lines)?;
     if !is_first_header(first.as_slice()) {
         return Err(CircuitError::Refused);
     }
-    let Some((second, rest)) = next_line(alloc, rest)? else {
+    let (second, rest) = header_line(alloc, rest)?;
+    if !is_second_header(second.as_slice()) {
         return Err(CircuitError::Refused);
-    };
-    match parties_of(second.as_slice()) {
-        Some(2) => read_statements(alloc, 2, rest),
-        _ => Err(CircuitError::Refused),
     }
+    read_statements(alloc, PARTIES_SO_FAR, rest)
 }
 
 /// Whether all bytes may stand in a text, and no comment begins, which is not read so far.
@@ -78,17 +88,21 @@ fn has_no_comment(bytes: &[u8]) -> bool
 }
 
 /// The words of the first line that is not blank, and the lines behind it.
-fn next_line<'a, 'b>(
+fn header_line<'a, 'b>(
     alloc: Global,
     lines: &'a [&'b [u8]],
-) -> Result<Option<(Vec<&'b [u8]>, &'a [&'b [u8]])>, CircuitError> {
+) -> Result<(Vec<&'b [u8]>, &'a [&'b [u8]]), CircuitError>
+    ensures ok { IfOk result (λ found. content (map (λ line. line.now) lines.entry.now) ≡ map (λ word. word.now) found.0.items ∷ content (map (λ line. line.now) found.1.now)) }
+    ensures so_far { IfOk result (λ found. list_all no_hexadecimal (content (map (λ line. line.now) lines.entry.now)) ≡ list_all no_hexadecimal (content (map (λ line. line.now) found.1.now))) }
+    ensures refused { IsErrOf result CircuitError.Refused → list_all no_hexadecimal (content (map (λ line. line.now) lines.entry.now)) ≡ true → content (map (λ line. line.now) lines.entry.now) ≡ [] }
+{
     for (at, line) in lines.iter().enumerate() {
         let words = line_so_far(alloc, line)?;
         if !words.is_empty() {
-            return Ok(Some((words, &lines[at + 1..])));
+            return Ok((words, &lines[at + 1..]));
         }
     }
-    Ok(None)
+    Err(CircuitError::Refused)
 }
 
 /// The words of a line, among which no hexadecimal number is read so far.
@@ -125,7 +139,18 @@ fn is_first_header(words: &[&[u8]]) -> bool
     matches!(words, [b"mixed", b"1"])
 }
 
-/// The number of parties that the second header line states.
+/// Whether a line is the second header line, for the number of parties that is read so far.
+#[tactic(auto, using(crate::proofs::ReadLemmas::parties_unique))]
+fn is_second_header(words: &[&[u8]]) -> bool
+    ensures { IsTrue result ↔ IsPartiesLine (map (λ word. word.now) words.now) PARTIES_SO_FAR }
+{
+    match parties_of(words) {
+        Some(parties) => parties == u64::from(PARTIES_SO_FAR),
+        None => false,
+    }
+}
+
+/// The number of parties that a second header line states.
 fn parties_of(words: &[&[u8]]) -> Option<u64>
     ensures some { IfSome result (λ parties. IsPartiesLine (map (λ word. word.now) words.now) parties) }
     ensures none { IfNone result ((parties : ℕ) → IsPartiesLine (map (λ word. word.now) words.now) parties → ⊥) }
@@ -136,23 +161,43 @@ fn parties_of(words: &[&[u8]]) -> Option<u64>
     }
 }
 
+/// The circuit of so many parties whose statements the lines say.
 fn read_statements(alloc: Global, parties: u8, lines: &[&[u8]]) -> Result<Mixed, CircuitError>
     requires some { 2 ≤ parties }
     requires most { parties ≤ 8 }
+    ensures ok { IfOk result (λ c. Adds (no_statements parties) (content (map (λ line. line.now) lines.now)) c) }
+    ensures so_far { OnOk result (list_all no_hexadecimal (content (map (λ line. line.now) lines.now)) ≡ true) }
+    ensures refused { IsErrOf result CircuitError.Refused → (c : Circuit) →
+        Adds (no_statements parties) (content (map (λ line. line.now) lines.now)) c →
+        list_all no_hexadecimal (content (map (λ line. line.now) lines.now)) ≡ true → ⊥ }
 {
     let mut builder = Builder::new(alloc, parties);
     for line in lines {
-        let words = line_so_far(alloc, line)?;
-        if !words.is_empty() {
-            builder = with_line(alloc, builder, words.as_slice())?;
-        }
+        builder = with_text(alloc, builder, line)?;
     }
     Ok(builder.finish())
+}
+
+/// The circuit with the statement that a line of text says, if it is not blank.
+fn with_text(alloc: Global, builder: Builder, line: &[u8]) -> Result<Builder, CircuitError>
+    ensures to { IfOk result (λ next. (more : List Text) (after : Circuit) → Adds builder (content (line.now ∷ more)) after → Adds next (content more) after) }
+    ensures from { IfOk result (λ next. (more : List Text) (after : Circuit) → Adds next (content more) after → Adds builder (content (line.now ∷ more)) after) }
+    ensures so_far { OnOk result ((more : List Text) → list_all no_hexadecimal (content (line.now ∷ more)) ≡ list_all no_hexadecimal (content more)) }
+    ensures refused { IsErrOf result CircuitError.Refused → (more : List Text) (after : Circuit) →
+        Adds builder (content (line.now ∷ more)) after → list_all no_hexadecimal (content (line.now ∷ more)) ≡ true → ⊥ }
+{
+    let words = line_so_far(alloc, line)?;
+    if words.is_empty() {
+        Ok(builder)
+    } else {
+        with_line(alloc, builder, words.as_slice())
+    }
 }
 
 /// The circuit with the statement that a line says.
 fn with_line(alloc: Global, builder: Builder, words: &[&[u8]]) -> Result<Builder, CircuitError>
     ensures ok { IfOk result (λ after. AddsLine builder (map (λ word. word.now) words.now) after) }
+    ensures circuit { IsCircuit builder }
     ensures refused { IsErrOf result CircuitError.Refused → (after : Circuit) → AddsLine builder (map (λ word. word.now) words.now) after → ⊥ }
 {
     if builder.is_full() {
