@@ -1,11 +1,14 @@
 -- What one more statement changes in a circuit, and where its names stand.
 use Rattle.std.proofs.Common.{ℕ, ◌≡◌, ◌≢◌, ◌<◌, ◌≤◌, ◌+◌, Bool, true, false, ◌&&◌, ◌||◌, List, [], ◌∷◌, ◌++◌, length, take, Some, None, Option, suc, zero, add-one, refl, sym, ◌∙◌, ap, subst, cond, arith, rules, ◌⊎◌, inl, inr}
-use Rattle.std.specs.Prelude.{slice_get, option_map, is_some, MatchOption}
+use Rattle.std.specs.Prelude.{slice_get, option_map, option_and_then, is_some, MatchOption}
 use Rattle.share_types.specs.declared.WireType.{WireType}
+use Rattle.share_types.specs.declared.WireType.TheVariants.{A}
+use Rattle.mixed_circuit.specs.declared.circuit.Form.{Form}
+use Rattle.mixed_circuit.specs.declared.circuit.Form.TheVariants.{InputA, AddA, SubA, MulA, Output}
 use Rattle.std.specs.Option.{option_or}
 use Rattle.std.specs.Str.{bytes_eq}
 use Rattle.std.proofs.lemmas.Option.{slice_get_within, slice_get_past}
-use Rattle.std.proofs.lemmas.List.{length-append, take-append-le}
+use Rattle.std.proofs.lemmas.List.{length-append, length-take, take-append-le}
 use Rattle.std.proofs.Math.Seq.{take-append_seam}
 use Rattle.std.specs.Str.{IsAscii}
 use Rattle.std.specs.List.{list_all}
@@ -16,7 +19,7 @@ use Rattle.std.proofs.lemmas.Str.Ascii.{IsAscii-nil, IsAscii-cons}
 use Rattle.mixed_circuit.proofs.WordLemmas.{both_true}
 use Rattle.mixed_circuit.specs.Text.{Text}
 use Rattle.mixed_circuit.specs.Word.{is_name, is_letter}
-use Rattle.mixed_circuit.specs.Circuit.{Statement, Circuit, IsCircuit, Follows, IsNamed, place_of, with_statement, max_statements}
+use Rattle.mixed_circuit.specs.Circuit.{Statement, Circuit, IsCircuit, Follows, IsAllowed, IsNamed, AreOperandsBefore, wire_at, place_of, with_statement, max_statements}
 
 abbrev pub fields : ℕ → List Statement → Circuit
 fields parties statements = record { parties = parties; statements = statements }
@@ -150,3 +153,21 @@ place_of-value ss s other value new = place_of-push ss s other ∙ ap (λ (b : B
 pub IsCircuit-pushed : (parties : ℕ) (before after : List Statement) (s : Statement) (c : Circuit) → fields parties before ≡ c → IsCircuit (fields parties before) → length c.statements < max_statements → Follows c.parties c.statements s → after ≡ before ++ s ∷ [] → IsCircuit (fields parties after)
 IsCircuit-pushed parties before after s c is circuit few follows pushed =
     subst (λ x. IsCircuit x) (sym (ap (λ x. with_statement x s) is) ∙ ap (fields parties) (sym pushed)) (IsCircuit-push c s (subst (λ x. IsCircuit x) is circuit) few follows)
+
+some_within : (before : List Statement) (x : ℕ) (o : Option Statement) → slice_get before x ≡ o → is_some (option_and_then (λ s. s.wire) o) ≡ true → x < length before
+some_within before x None e h = cc
+some_within before x (Some s) e h = slice_get_within before x s e
+
+wire_within : (ss : List Statement) (at x : ℕ) → is_some (wire_at (take at ss) x) ≡ true → x < at
+wire_within ss at x h = let within = simp length-take at (some_within (take at ss) x _ refl h) in omega arith
+
+shared_within : (ss : List Statement) (at x : ℕ) (w : WireType) → wire_at (take at ss) x ≡ Some w → x < at
+shared_within ss at x w h = wire_within ss at x (ap (λ (o : Option WireType). is_some o) h)
+
+-- the operands of a form that may stand behind some first statements are among these
+pub operands_before : (parties : ℕ) (ss : List Statement) (at : ℕ) (form : Form) → IsAllowed parties (take at ss) form → AreOperandsBefore at form
+operands_before parties ss at (InputA party) allowed = tt
+operands_before parties ss at (AddA x y) allowed = (shared_within ss at x A allowed.0, shared_within ss at y A allowed.1)
+operands_before parties ss at (SubA x y) allowed = (shared_within ss at x A allowed.0, shared_within ss at y A allowed.1)
+operands_before parties ss at (MulA x y) allowed = (shared_within ss at x A allowed.0, shared_within ss at y A allowed.1)
+operands_before parties ss at (Output x to) allowed = wire_within ss at x allowed.0

@@ -60,6 +60,14 @@ IsAllowed parties before (SubA x y) = AreShared before A x y
 IsAllowed parties before (MulA x y) = AreShared before A x y
 IsAllowed parties before (Output x to) = IsSome (wire_at before x) × IsReceiver parties to
 
+-- the operands of a form are statements before a place
+abbrev pub AreOperandsBefore : ℕ → Form → Type 0
+AreOperandsBefore at (InputA party) = ⊤
+AreOperandsBefore at (AddA x y) = (x < at) × (y < at)
+AreOperandsBefore at (SubA x y) = (x < at) × (y < at)
+AreOperandsBefore at (MulA x y) = (x < at) × (y < at)
+AreOperandsBefore at (Output x to) = x < at
+
 -- a value has a name that no earlier value has, and an output has the empty name
 abbrev pub IsNamed : List Statement → Statement → Type 0
 IsNamed before s = MatchOption s.wire (s.name ≡ []) (λ _. (is_name s.name ≡ true) × (place_of before s.name ≡ None))

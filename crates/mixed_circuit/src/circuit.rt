@@ -66,7 +66,7 @@ impl Model for Mixed {
 }
 
 impl Mixed {
-    ghost use Rattle.mixed_circuit.specs.Circuit.{IsCircuit, Follows, max_statements, with_statement};
+    ghost use Rattle.mixed_circuit.specs.Circuit.{IsCircuit, AreOperandsBefore, Follows, max_statements, with_statement};
 
     /// The circuit of no statement.
     pub(crate) fn new(alloc: Global, parties: u8) -> Mixed
@@ -132,10 +132,11 @@ impl Mixed {
         self.statements[at as usize].wire
     }
 
-    /// What a statement does.
+    /// What a statement does. Its operands are earlier statements.
     pub fn form(&self, at: u32) -> Form
         requires { at < length self.now.statements }
-        ensures { option_map (λ s. s.form) (slice_get self.now.statements at) ≡ Some result }
+        ensures value { option_map (λ s. s.form) (slice_get self.now.statements at) ≡ Some result }
+        ensures operands { AreOperandsBefore at result }
     {
         self.statements[at as usize].form
     }

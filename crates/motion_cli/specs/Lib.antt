@@ -1,1 +1,4 @@
 pub mod Words
+pub mod Report
+pub mod Answer
+pub mod End
