@@ -3,3 +3,8 @@ mod WordLemmas
 mod CircuitLemmas
 mod ReadingLemmas
 mod ReadLemmas
+mod BitsLemmas
+mod ListLemmas
+pub mod ValuesLemmas
+mod LineLemmas
+mod GatheringLemmas

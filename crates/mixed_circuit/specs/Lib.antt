@@ -5,3 +5,7 @@ pub mod Grammar
 pub mod SoFar
 pub mod Eval
 pub mod Reading
+pub mod Bits
+pub mod Table
+pub mod Values
+pub mod Gathered

@@ -4,8 +4,12 @@
 mod builder;
 mod circuit;
 mod read;
+mod table;
 mod text;
+mod values;
 mod word;
 
 pub use circuit::{Form, MAX_STATEMENTS, Mixed, Receiver};
 pub use read::{CircuitError, read_mixed};
+pub use table::{InputTable, MAX_INPUTS};
+pub use values::{Values, ValuesError, read_values, reads_one_list};

@@ -11,7 +11,7 @@ ghost use Rattle.mixed_circuit.specs.declared.read.Operation.{Operation};
 
 use crate::builder::Builder;
 use crate::circuit::{Form, Mixed, Receiver};
-use crate::text::{is_allowed_byte, line_words_of, lines_of};
+use crate::text::{are_allowed, line_words_of, lines_of};
 use crate::word::{is_name_word, number};
 use mot_base::Party;
 use share_types::WireType;
@@ -73,12 +73,6 @@ fn is_text_so_far(bytes: &[u8]) -> bool
     ensures { result ≡ (list_all is_allowed bytes.now && no_comment bytes.now) }
 {
     are_allowed(bytes) && has_no_comment(bytes)
-}
-
-fn are_allowed(bytes: &[u8]) -> bool
-    ensures { result ≡ list_all is_allowed bytes.now }
-{
-    bytes.iter().all(|byte| is_allowed_byte(*byte))
 }
 
 fn has_no_comment(bytes: &[u8]) -> bool

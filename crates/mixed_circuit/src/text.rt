@@ -1,6 +1,6 @@
 ghost use Rattle.std.specs.Prelude.{◌≡◌, ◌≤◌, ◌==◌, length, map, position, IfOk, IfSome};
 ghost use Rattle.mixed_circuit.specs.Text.{lines, is_line_end, ends_empty, words, line_words, without_comment, is_blank, is_allowed};
-ghost use Rattle.std.specs.List.{slice_split, position_or_len};
+ghost use Rattle.std.specs.List.{slice_split, position_or_len, list_all};
 
 use std::alloc::{AllocError, Global};
 
@@ -75,8 +75,15 @@ fn first_hash(line: &[u8]) -> Option<usize>
     line.iter().position(|byte| *byte == b'#')
 }
 
+/// Whether all bytes may stand in a text.
+pub fn are_allowed(bytes: &[u8]) -> bool
+    ensures { result ≡ list_all is_allowed bytes.now }
+{
+    bytes.iter().all(|byte| is_allowed_byte(*byte))
+}
+
 /// Whether a byte may stand in a text.
-pub fn is_allowed_byte(byte: u8) -> bool
+fn is_allowed_byte(byte: u8) -> bool
     ensures { result ≡ is_allowed byte }
 {
     is_blank_byte(byte) || byte == b'\n' || matches!(byte, 32..=126)

@@ -1,0 +1,17 @@
+-- Lists of bits and their numbers.
+use Rattle.std.specs.Prelude.{ℕ, ◌==◌, ◌+◌, ◌*◌, ◌/◌, ◌%◌, Bool, true, false, List, [], ◌∷◌, suc, zero}
+
+-- a bit as a number
+abbrev pub once : Bool → ℕ
+once true = 1
+once false = 0
+
+-- the number of a list of bits, of which the first is the least
+abbrev pub number : List Bool → ℕ
+number [] = 0
+number (b ∷ bs) = once b + 2 * number bs
+
+-- the lowest bits of a number, the least first
+abbrev pub bits : ℕ → ℕ → List Bool
+bits zero n = []
+bits (suc width) n = (n % 2 == 1) ∷ bits width (n / 2)

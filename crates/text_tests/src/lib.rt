@@ -1,0 +1,5 @@
+//! Tests of the readers of texts: texts at the edges of each language, and what they read as.
+#![tactic(auto)]
+
+#[cfg(test)]
+mod values;
