@@ -1,6 +1,7 @@
 //! What the program does with its words.
 #![tactic(auto)]
 
+mod deal;
 mod words;
 
 pub use words::{Command, LocalWords, read_command, read_local};
