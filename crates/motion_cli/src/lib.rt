@@ -2,6 +2,7 @@
 #![tactic(auto)]
 
 mod deal;
+mod run;
 mod words;
 
 pub use words::{Command, LocalWords, read_command, read_local};

@@ -1,0 +1,164 @@
+ghost use Rattle.std.specs.Prelude.{◌≡◌, ◌<◌, ◌≤◌, [], ◌∷◌, length, map, IfOk};
+ghost use Rattle.arithmetic_gmw.specs.Laws.{IsTriple};
+ghost use Rattle.arithmetic_gmw.specs.Shares.{word_sum, word_difference, word_product};
+ghost use Rattle.mixed_circuit.specs.Eval.{form_value, inputs_behind, evaluated};
+ghost use Rattle.motion_cli.specs.Run.{word_of_shares, count_inputs, inputs_of, triples_of, IsReady};
+
+use crate::deal::{DealtTriple, dealt_triple};
+use arithmetic_gmw::{add, mul_close, mul_open, share_out, sub};
+use mixed_circuit::{Form, Mixed};
+use mot_base::{NoMemory, Party, Seed, derive};
+use std::alloc::Global;
+
+/// The shares of one word: party 0's and party 1's.
+#[derive(Clone, Copy, Debug, PartialEq, Eq)]
+pub(crate) struct Shares {
+    pub(crate) first: u64,
+    pub(crate) second: u64,
+}
+
+impl Shares {
+    /// The word that they are shares of.
+    pub(crate) fn word(self) -> u64
+        ensures { result ≡ word_of_shares self }
+    {
+        self.first.wrapping_add(self.second)
+    }
+}
+
+/// Runs a circuit of two parties on shares, and gives the shares of each statement's value in order. The
+/// inputs are those of the input statements in order, and the seed is what the parties' tapes and the
+/// dealer's are derived from.
+pub(crate) fn run_on_shares(
+    alloc: Global,
+    circuit: &Mixed,
+    inputs: &[u64],
+    seed: &Seed,
+) -> Result<Vec<Shares>, NoMemory>
+    requires parties { circuit.now.parties ≡ 2 }
+    requires inputs { count_inputs circuit.now.statements ≤ length inputs.now }
+    ensures { IfOk result (λ shares. map word_of_shares shares.items ≡ evaluated circuit.now.statements inputs.now) }
+{
+    let mut shares = Vec::with_capacity(alloc, circuit.len() as usize)?;
+    let mut left = inputs;
+    let mut triple = 0;
+    for gate in 0..circuit.len() {
+        let form = circuit.form(gate);
+        let next = shares_of(alloc, form, seed, gate, triple, left, shares.as_slice())?;
+        shares.push(next)?;
+        left = inputs_left(left, form);
+        triple += triples_of(form);
+    }
+    Ok(shares)
+}
+
+/// The session of a run: there is no other with its tapes.
+const SESSION: u32 = 0;
+
+/// The label under which the dealer's tape is derived. A party's is its number.
+const DEALER: u8 = 255;
+
+/// The shares of a form's value at a gate, from the inputs that are left, the number of the triple that
+/// is next and the shares of the statements before it.
+fn shares_of(
+    alloc: Global,
+    form: Form,
+    seed: &Seed,
+    gate: u32,
+    triple: u32,
+    left: &[u64],
+    before: &[Shares],
+) -> Result<Shares, NoMemory>
+    requires gate { gate < 4194304 }
+    requires ready { IsReady (length before.now) form }
+    requires inputs { inputs_of form ≤ length left.now }
+    ensures { IfOk result (λ s. word_of_shares s ≡ form_value left.now (map word_of_shares before.now) form) }
+{
+    match form {
+        Form::InputA { party } => shared_input(alloc, left[0], seed, gate, party),
+        Form::AddA { x, y } => Ok(sum(before[x as usize], before[y as usize])),
+        Form::SubA { x, y } => Ok(difference(before[x as usize], before[y as usize])),
+        Form::MulA { x, y } => {
+            let dealt = dealt_triple(&derive(seed, DEALER), triple);
+            Ok(product(before[x as usize], before[y as usize], dealt))
+        }
+        Form::Output { x, .. } => Ok(before[x as usize]),
+    }
+}
+
+/// The inputs that are left behind a form.
+fn inputs_left(inputs: &[u64], form: Form) -> &[u64]
+    requires { inputs_of form ≤ length inputs.now }
+    ensures { result.now ≡ inputs_behind inputs.entry.now form }
+{
+    match form {
+        Form::InputA { .. } => &inputs[1..],
+        _ => inputs,
+    }
+}
+
+/// How many triples a form uses.
+fn triples_of(form: Form) -> u32
+    ensures { result ≡ triples_of form }
+{
+    match form {
+        Form::MulA { .. } => 1,
+        _ => 0,
+    }
+}
+
+/// The shares of an input, which its owner gives out from its tape.
+fn shared_input(
+    alloc: Global,
+    input: u64,
+    seed: &Seed,
+    gate: u32,
+    owner: Party,
+) -> Result<Shares, NoMemory>
+    requires gate { gate < 4194304 }
+    requires owner { owner.0 < 2 }
+    ensures { IfOk result (λ s. word_of_shares s ≡ input) }
+{
+    let tape = derive(seed, owner.0);
+    let given = share_out(alloc, input, &tape, SESSION, gate, owner, 2)?;
+    Ok(Shares {
+        first: given[0],
+        second: given[1],
+    })
+}
+
+/// The shares of a sum, which each party makes by itself.
+fn sum(x: Shares, y: Shares) -> Shares
+    ensures { word_of_shares result ≡ word_sum (word_of_shares x) (word_of_shares y) }
+{
+    Shares {
+        first: add(x.first, y.first),
+        second: add(x.second, y.second),
+    }
+}
+
+/// The shares of a difference, which each party makes by itself.
+fn difference(x: Shares, y: Shares) -> Shares
+    ensures { word_of_shares result ≡ word_difference (word_of_shares x) (word_of_shares y) }
+{
+    Shares {
+        first: sub(x.first, y.first),
+        second: sub(x.second, y.second),
+    }
+}
+
+/// The shares of a product, for which both parties open what the parts of a triple leave of the
+/// operands.
+fn product(x: Shares, y: Shares, dealt: DealtTriple) -> Shares
+    requires { IsTriple (dealt.first ∷ dealt.second ∷ []) }
+    ensures { word_of_shares result ≡ word_product (word_of_shares x) (word_of_shares y) }
+{
+    let (first_d, first_e) = mul_open(x.first, y.first, dealt.first);
+    let (second_d, second_e) = mul_open(x.second, y.second, dealt.second);
+    let d = first_d.wrapping_add(second_d);
+    let e = first_e.wrapping_add(second_e);
+    Shares {
+        first: mul_close(Party(0), dealt.first, d, e),
+        second: mul_close(Party(1), dealt.second, d, e),
+    }
+}
