@@ -14,7 +14,7 @@ use Rattle.mixed_circuit.specs.declared.circuit.Form.TheVariants.{InputA, AddA, 
 use Rattle.mixed_circuit.specs.Circuit.{Circuit, Statement, IsCircuit, IsAllowed, wire_at}
 use Rattle.mixed_circuit.specs.Eval.{form_value, inputs_behind, values_behind}
 use Rattle.motion_cli.specs.declared.run.Shares.{Shares}
-use Rattle.motion_cli.specs.Run.{word_of_shares, inputs_of, triples_of, count_inputs, IsReady}
+use Rattle.motion_cli.specs.Run.{word_of_shares, inputs_of, count_inputs, IsReady}
 
 -- Two parties' product.
 
@@ -115,13 +115,6 @@ length-inputs_behind left (Output x to) = omega arith
 pub inputs_next : (ss : List Statement) (at : ℕ) (form : Form) (left rest : List ℕ) → StandsAt ss at form →
     rest ≡ inputs_behind left form → count_inputs (drop at ss) ≤ length left → count_inputs (drop (at + 1) ss) ≤ length rest
 inputs_next ss at form left rest r e h = rw e (omega (arith, count_next ss at form r, length-inputs_behind left form))
-
-pub one_triple : (form : Form) → triples_of form ≤ 1
-one_triple (InputA party) = omega arith
-one_triple (AddA x y) = omega arith
-one_triple (SubA x y) = omega arith
-one_triple (MulA x y) = omega arith
-one_triple (Output x to) = omega arith
 
 pub behind_next : (ss : List Statement) (at : ℕ) (form : Form) (left rest whole : List ℕ) (shares more : List Shares) (next : Shares) →
     StandsAt ss at form → rest ≡ inputs_behind left form → more ≡ shares ++ next ∷ [] →

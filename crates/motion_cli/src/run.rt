@@ -99,7 +99,8 @@ fn inputs_left(inputs: &[u64], form: Form) -> &[u64]
 
 /// How many triples a form uses.
 fn triples_of(form: Form) -> u32
-    ensures { result ≡ triples_of form }
+    ensures value { result ≡ triples_of form }
+    ensures most { result ≤ 1 }
 {
     match form {
         Form::MulA { .. } => 1,
@@ -160,5 +161,104 @@ fn product(x: Shares, y: Shares, dealt: DealtTriple) -> Shares
     Shares {
         first: mul_close(Party(0), dealt.first, d, e),
         second: mul_close(Party(1), dealt.second, d, e),
+    }
+}
+
+#[cfg(test)]
+mod tests {
+    use super::*;
+    use mixed_circuit::read_mixed;
+    use share_types::MultTriple;
+    use std::test::Fail;
+
+    // the product of an input of either party, told to both
+    const CIRCUIT: &[u8] =
+        b"mixed 1\nparties 2\nx = input 0 A\ny = input 1 A\nz = mul x y\noutput z all\n";
+
+    // the first triple of the deal for the seed of 32 zero bytes, as the dealer's files hold it
+    const FIRST_PART: MultTriple = MultTriple {
+        a: 0x99d2379c2e837805,
+        b: 0x1c2add9a53828a36,
+        c: 0x1b8763727dc0cd49,
+    };
+
+    const SECOND_PART: MultTriple = MultTriple {
+        a: 0x8b80c6bf81f65fb5,
+        b: 0x1f2d56ba401f8689,
+        c: 0x376253001c56c67d,
+    };
+
+    // what each party sends the other in the run on 6 and 7: its share of the other's input, what it opens
+    // of the left and of the right operand, and its share of the output
+    const FROM_FIRST: Sent = Sent {
+        input: 0xa052138367b59734,
+        opened: (0xc5dbb4e069c6f0cd, 0x30741d53df25567e),
+        output: 0x255183ed892bfb19,
+    };
+
+    const FROM_SECOND: Sent = Sent {
+        input: 0x4c9efaee32a7e0b4,
+        opened: (0x14d14cc3e5bf377f, 0x9433ae578d3898ca),
+        output: 0xdaae7c1276d40511,
+    };
+
+    #[derive(Clone, Copy, Debug, PartialEq, Eq)]
+    struct Sent {
+        input: u64,
+        opened: (u64, u64),
+        output: u64,
+    }
+
+    #[test]
+    fn six_times_seven_is_sent_as_recorded(rt: HostRuntime) -> Result<(), Fail> {
+        let seed = Seed([0; 32]);
+        let dealt = dealt_triple(&derive(&seed, DEALER), 0);
+        assert_eq!(rt; (dealt.first, dealt.second), (FIRST_PART, SECOND_PART));
+        let circuit = read_mixed(rt.alloc(), CIRCUIT)?;
+        let inputs = [6, 7];
+        assert_eq!(rt;
+            (circuit.parties(), count_inputs(&circuit)),
+            (2, inputs.len())
+        );
+        let run = run_on_shares(rt.alloc(), &circuit, inputs.as_slice(), &seed)?;
+        let [x, y, z, output] = run.as_slice() else {
+            panic!(rt; "a statement has no shares");
+        };
+        let from_first = Sent {
+            input: x.second,
+            opened: mul_open(x.first, y.first, dealt.first),
+            output: output.first,
+        };
+        let from_second = Sent {
+            input: y.first,
+            opened: mul_open(x.second, y.second, dealt.second),
+            output: output.second,
+        };
+        assert_eq!(rt; (from_first, from_second), (FROM_FIRST, FROM_SECOND));
+        assert_eq!(rt;
+            (x.word(), y.word(), z.word(), output.word()),
+            (6, 7, 42, 42)
+        );
+        Ok(())
+    }
+
+    fn count_inputs(circuit: &Mixed) -> usize
+        ensures { result ≡ count_inputs circuit.now.statements }
+    {
+        let mut count = 0;
+        for at in 0..circuit.len() {
+            count += inputs_of(circuit.form(at));
+        }
+        count
+    }
+
+    fn inputs_of(form: Form) -> usize
+        ensures value { result ≡ inputs_of form }
+        ensures most { result ≤ 1 }
+    {
+        match form {
+            Form::InputA { .. } => 1,
+            _ => 0,
+        }
     }
 }

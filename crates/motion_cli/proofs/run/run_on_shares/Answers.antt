@@ -1,7 +1,7 @@
 use Rattle.std.proofs.Common.{length, map, ap, ◌∙◌, arith, rules}
 use Rattle.mixed_circuit.specs.Eval.{form_value}
 use Rattle.motion_cli.specs.Run.{word_of_shares}
-use Rattle.motion_cli.proofs.Running.{stands, ready, inputs_before, inputs_next, one_triple, behind_next}
+use Rattle.motion_cli.proofs.Running.{stands, ready, inputs_before, inputs_next, behind_next}
 use Rattle.motion_cli.proofs.run.run_on_shares.Goals as goal
 
 pub shares_of-requires-clause-ready : goal.shares_of-requires-clause-ready
@@ -26,7 +26,7 @@ loop-gate-preserved c =
     ap (λ shares. form_value c.loop-gate.left.now (map word_of_shares shares) c.form-form.result) c.as_slice.ensures.value in
     record {
       count = search rules;
-      triples = omega (arith, c.triples_of-triple.ensures, one_triple c.form-form.result);
+      triples = omega arith;
       inputs = inputs_next c.args.circuit.now.statements c.loop-gate.gate c.form-form.result c.loop-gate.left.now _ here
           c.inputs_left-left.ensures c.loop-gate.invariant.inputs;
       behind = behind_next c.args.circuit.now.statements c.loop-gate.gate c.form-form.result c.loop-gate.left.now _ _ c.loop-gate.shares.items _ c.in_ok-next.next
