@@ -2,7 +2,7 @@ ghost use Rattle.std.specs.Prelude.{◌≡◌, ◌<◌, ◌≤◌, [], ◌∷◌
 ghost use Rattle.arithmetic_gmw.specs.Laws.{IsTriple};
 ghost use Rattle.arithmetic_gmw.specs.Shares.{word_sum, word_difference, word_product};
 ghost use Rattle.mixed_circuit.specs.Eval.{form_value, inputs_behind, evaluated};
-ghost use Rattle.motion_cli.specs.Run.{word_of_shares, count_inputs, inputs_of, triples_of, IsReady};
+ghost use Rattle.motion_cli.specs.Run.{word_of_shares, count_inputs, inputs_of, triples_of, IsReady, input_shares, each_by_itself, product_shares, form_shares, IsRun};
 
 use crate::deal::{DealtTriple, dealt_triple};
 use arithmetic_gmw::{add, mul_close, mul_open, share_out, sub};
@@ -37,7 +37,8 @@ pub(crate) fn run_on_shares(
 ) -> Result<Vec<Shares>, NoMemory>
     requires parties { circuit.now.parties ≡ 2 }
     requires inputs { count_inputs circuit.now.statements ≤ length inputs.now }
-    ensures { IfOk result (λ shares. map word_of_shares shares.items ≡ evaluated circuit.now.statements inputs.now) }
+    ensures run { IfOk result (λ shares. IsRun circuit.now.statements inputs.now seed.now.0 shares.items) }
+    ensures values { IfOk result (λ shares. map word_of_shares shares.items ≡ evaluated circuit.now.statements inputs.now) }
 {
     let mut shares = Vec::with_capacity(alloc, circuit.len() as usize)?;
     let mut left = inputs;
@@ -72,7 +73,8 @@ fn shares_of(
     requires gate { gate < 4194304 }
     requires ready { IsReady (length before.now) form }
     requires inputs { inputs_of form ≤ length left.now }
-    ensures { IfOk result (λ s. word_of_shares s ≡ form_value left.now (map word_of_shares before.now) form) }
+    ensures shares { IfOk result (λ s. s ≡ form_shares seed.now.0 gate triple left.now before.now form) }
+    ensures value { IfOk result (λ s. word_of_shares s ≡ form_value left.now (map word_of_shares before.now) form) }
 {
     match form {
         Form::InputA { party } => shared_input(alloc, left[0], seed, gate, party),
@@ -97,7 +99,7 @@ fn inputs_left(inputs: &[u64], form: Form) -> &[u64]
     }
 }
 
-/// How many triples a form uses.
+/// How many triples a form takes.
 fn triples_of(form: Form) -> u32
     ensures value { result ≡ triples_of form }
     ensures most { result ≤ 1 }
@@ -118,7 +120,8 @@ fn shared_input(
 ) -> Result<Shares, NoMemory>
     requires gate { gate < 4194304 }
     requires owner { owner.0 < 2 }
-    ensures { IfOk result (λ s. word_of_shares s ≡ input) }
+    ensures shares { IfOk result (λ s. s ≡ input_shares seed.now.0 gate owner.0 input) }
+    ensures value { IfOk result (λ s. word_of_shares s ≡ input) }
 {
     let tape = derive(seed, owner.0);
     let given = share_out(alloc, input, &tape, SESSION, gate, owner, 2)?;
@@ -130,7 +133,8 @@ fn shared_input(
 
 /// The shares of a sum, which each party makes by itself.
 fn sum(x: Shares, y: Shares) -> Shares
-    ensures { word_of_shares result ≡ word_sum (word_of_shares x) (word_of_shares y) }
+    ensures shares { result ≡ each_by_itself word_sum x y }
+    ensures value { word_of_shares result ≡ word_sum (word_of_shares x) (word_of_shares y) }
 {
     Shares {
         first: add(x.first, y.first),
@@ -140,7 +144,8 @@ fn sum(x: Shares, y: Shares) -> Shares
 
 /// The shares of a difference, which each party makes by itself.
 fn difference(x: Shares, y: Shares) -> Shares
-    ensures { word_of_shares result ≡ word_difference (word_of_shares x) (word_of_shares y) }
+    ensures shares { result ≡ each_by_itself word_difference x y }
+    ensures value { word_of_shares result ≡ word_difference (word_of_shares x) (word_of_shares y) }
 {
     Shares {
         first: sub(x.first, y.first),
@@ -152,7 +157,8 @@ fn difference(x: Shares, y: Shares) -> Shares
 /// operands.
 fn product(x: Shares, y: Shares, dealt: DealtTriple) -> Shares
     requires { IsTriple (dealt.first ∷ dealt.second ∷ []) }
-    ensures { word_of_shares result ≡ word_product (word_of_shares x) (word_of_shares y) }
+    ensures shares { result ≡ product_shares x y dealt.first dealt.second }
+    ensures value { word_of_shares result ≡ word_product (word_of_shares x) (word_of_shares y) }
 {
     let (first_d, first_e) = mul_open(x.first, y.first, dealt.first);
     let (second_d, second_e) = mul_open(x.second, y.second, dealt.second);
