@@ -1,2 +1,4 @@
 mod ReportLemmas
 mod EndLemmas
+mod Dealing
+mod Running

@@ -2,3 +2,5 @@ pub mod Words
 pub mod Report
 pub mod Answer
 pub mod End
+pub mod Deal
+pub mod Run

@@ -5,6 +5,8 @@ mod answer;
 mod end;
 mod load;
 mod report;
+mod deal;
+mod run;
 mod words;
 
 pub use words::{Command, LocalWords, read_command, read_local};

@@ -1,0 +1,270 @@
+ghost use Rattle.std.specs.Prelude.{◌≡◌, ◌<◌, ◌≤◌, [], ◌∷◌, length, map, IfOk};
+ghost use Rattle.arithmetic_gmw.specs.Laws.{IsTriple};
+ghost use Rattle.arithmetic_gmw.specs.Shares.{word_sum, word_difference, word_product};
+ghost use Rattle.mixed_circuit.specs.Eval.{form_value, inputs_behind, evaluated};
+ghost use Rattle.motion_cli.specs.Run.{word_of_shares, count_inputs, inputs_of, triples_of, IsReady, input_shares, each_by_itself, product_shares, form_shares, IsRun};
+
+use crate::deal::{DealtTriple, dealt_triple};
+use arithmetic_gmw::{add, mul_close, mul_open, share_out, sub};
+use mixed_circuit::{Form, Mixed};
+use mot_base::{NoMemory, Party, Seed, derive};
+use std::alloc::Global;
+
+/// The shares of one word: party 0's and party 1's.
+#[derive(Clone, Copy, Debug, PartialEq, Eq)]
+pub(crate) struct Shares {
+    pub(crate) first: u64,
+    pub(crate) second: u64,
+}
+
+impl Shares {
+    /// The word that they are shares of.
+    pub(crate) fn word(self) -> u64
+        ensures { result ≡ word_of_shares self }
+    {
+        self.first.wrapping_add(self.second)
+    }
+}
+
+/// Runs a circuit of two parties on shares, and gives the shares of each statement's value in order. The
+/// inputs are those of the input statements in order, and the seed is what the parties' tapes and the
+/// dealer's are derived from.
+pub(crate) fn run_on_shares(
+    alloc: Global,
+    circuit: &Mixed,
+    inputs: &[u64],
+    seed: &Seed,
+) -> Result<Vec<Shares>, NoMemory>
+    requires parties { circuit.now.parties ≡ 2 }
+    requires inputs { count_inputs circuit.now.statements ≤ length inputs.now }
+    ensures run { IfOk result (λ shares. IsRun circuit.now.statements inputs.now seed.now.0 shares.items) }
+    ensures values { IfOk result (λ shares. map word_of_shares shares.items ≡ evaluated circuit.now.statements inputs.now) }
+{
+    let mut shares = Vec::with_capacity(alloc, circuit.len() as usize)?;
+    let mut left = inputs;
+    let mut triple = 0;
+    for gate in 0..circuit.len() {
+        let form = circuit.form(gate);
+        let next = shares_of(alloc, form, seed, gate, triple, left, shares.as_slice())?;
+        shares.push(next)?;
+        left = inputs_left(left, form);
+        triple += triples_of(form);
+    }
+    Ok(shares)
+}
+
+/// The session of a run: there is no other with its tapes.
+const SESSION: u32 = 0;
+
+/// The label under which the dealer's tape is derived. A party's is its number.
+const DEALER: u8 = 255;
+
+/// The shares of a form's value at a gate, from the inputs that are left, the number of the triple that
+/// is next and the shares of the statements before it.
+fn shares_of(
+    alloc: Global,
+    form: Form,
+    seed: &Seed,
+    gate: u32,
+    triple: u32,
+    left: &[u64],
+    before: &[Shares],
+) -> Result<Shares, NoMemory>
+    requires gate { gate < 4194304 }
+    requires ready { IsReady (length before.now) form }
+    requires inputs { inputs_of form ≤ length left.now }
+    ensures shares { IfOk result (λ s. s ≡ form_shares seed.now.0 gate triple left.now before.now form) }
+    ensures value { IfOk result (λ s. word_of_shares s ≡ form_value left.now (map word_of_shares before.now) form) }
+{
+    match form {
+        Form::InputA { party } => shared_input(alloc, left[0], seed, gate, party),
+        Form::AddA { x, y } => Ok(sum(before[x as usize], before[y as usize])),
+        Form::SubA { x, y } => Ok(difference(before[x as usize], before[y as usize])),
+        Form::MulA { x, y } => {
+            let dealt = dealt_triple(&derive(seed, DEALER), triple);
+            Ok(product(before[x as usize], before[y as usize], dealt))
+        }
+        Form::Output { x, .. } => Ok(before[x as usize]),
+    }
+}
+
+/// The inputs that are left behind a form.
+fn inputs_left(inputs: &[u64], form: Form) -> &[u64]
+    requires { inputs_of form ≤ length inputs.now }
+    ensures { result.now ≡ inputs_behind inputs.entry.now form }
+{
+    match form {
+        Form::InputA { .. } => &inputs[1..],
+        _ => inputs,
+    }
+}
+
+/// How many triples a form takes.
+fn triples_of(form: Form) -> u32
+    ensures value { result ≡ triples_of form }
+    ensures most { result ≤ 1 }
+{
+    match form {
+        Form::MulA { .. } => 1,
+        _ => 0,
+    }
+}
+
+/// The shares of an input, which its owner gives out from its tape.
+fn shared_input(
+    alloc: Global,
+    input: u64,
+    seed: &Seed,
+    gate: u32,
+    owner: Party,
+) -> Result<Shares, NoMemory>
+    requires gate { gate < 4194304 }
+    requires owner { owner.0 < 2 }
+    ensures shares { IfOk result (λ s. s ≡ input_shares seed.now.0 gate owner.0 input) }
+    ensures value { IfOk result (λ s. word_of_shares s ≡ input) }
+{
+    let tape = derive(seed, owner.0);
+    let given = share_out(alloc, input, &tape, SESSION, gate, owner, 2)?;
+    Ok(Shares {
+        first: given[0],
+        second: given[1],
+    })
+}
+
+/// The shares of a sum, which each party makes by itself.
+fn sum(x: Shares, y: Shares) -> Shares
+    ensures shares { result ≡ each_by_itself word_sum x y }
+    ensures value { word_of_shares result ≡ word_sum (word_of_shares x) (word_of_shares y) }
+{
+    Shares {
+        first: add(x.first, y.first),
+        second: add(x.second, y.second),
+    }
+}
+
+/// The shares of a difference, which each party makes by itself.
+fn difference(x: Shares, y: Shares) -> Shares
+    ensures shares { result ≡ each_by_itself word_difference x y }
+    ensures value { word_of_shares result ≡ word_difference (word_of_shares x) (word_of_shares y) }
+{
+    Shares {
+        first: sub(x.first, y.first),
+        second: sub(x.second, y.second),
+    }
+}
+
+/// The shares of a product, for which both parties open what the parts of a triple leave of the
+/// operands.
+fn product(x: Shares, y: Shares, dealt: DealtTriple) -> Shares
+    requires { IsTriple (dealt.first ∷ dealt.second ∷ []) }
+    ensures shares { result ≡ product_shares x y dealt.first dealt.second }
+    ensures value { word_of_shares result ≡ word_product (word_of_shares x) (word_of_shares y) }
+{
+    let (first_d, first_e) = mul_open(x.first, y.first, dealt.first);
+    let (second_d, second_e) = mul_open(x.second, y.second, dealt.second);
+    let d = first_d.wrapping_add(second_d);
+    let e = first_e.wrapping_add(second_e);
+    Shares {
+        first: mul_close(Party(0), dealt.first, d, e),
+        second: mul_close(Party(1), dealt.second, d, e),
+    }
+}
+
+#[cfg(test)]
+mod tests {
+    use super::*;
+    use mixed_circuit::read_mixed;
+    use share_types::MultTriple;
+    use std::test::Fail;
+
+    // the product of an input of either party, told to both
+    const CIRCUIT: &[u8] =
+        b"mixed 1\nparties 2\nx = input 0 A\ny = input 1 A\nz = mul x y\noutput z all\n";
+
+    // the first triple of the deal for the seed of 32 zero bytes, as the dealer's files hold it
+    const FIRST_PART: MultTriple = MultTriple {
+        a: 0x99d2379c2e837805,
+        b: 0x1c2add9a53828a36,
+        c: 0x1b8763727dc0cd49,
+    };
+
+    const SECOND_PART: MultTriple = MultTriple {
+        a: 0x8b80c6bf81f65fb5,
+        b: 0x1f2d56ba401f8689,
+        c: 0x376253001c56c67d,
+    };
+
+    // what each party sends the other in the run on 6 and 7: its share of the other's input, what it opens
+    // of the left and of the right operand, and its share of the output
+    const FROM_FIRST: Sent = Sent {
+        input: 0xa052138367b59734,
+        opened: (0xc5dbb4e069c6f0cd, 0x30741d53df25567e),
+        output: 0x255183ed892bfb19,
+    };
+
+    const FROM_SECOND: Sent = Sent {
+        input: 0x4c9efaee32a7e0b4,
+        opened: (0x14d14cc3e5bf377f, 0x9433ae578d3898ca),
+        output: 0xdaae7c1276d40511,
+    };
+
+    #[derive(Clone, Copy, Debug, PartialEq, Eq)]
+    struct Sent {
+        input: u64,
+        opened: (u64, u64),
+        output: u64,
+    }
+
+    #[test]
+    fn six_times_seven_is_sent_as_recorded(rt: HostRuntime) -> Result<(), Fail> {
+        let seed = Seed([0; 32]);
+        let dealt = dealt_triple(&derive(&seed, DEALER), 0);
+        assert_eq!(rt; (dealt.first, dealt.second), (FIRST_PART, SECOND_PART));
+        let circuit = read_mixed(rt.alloc(), CIRCUIT)?;
+        let inputs = [6, 7];
+        assert_eq!(rt;
+            (circuit.parties(), count_inputs(&circuit)),
+            (2, inputs.len())
+        );
+        let run = run_on_shares(rt.alloc(), &circuit, inputs.as_slice(), &seed)?;
+        let [x, y, z, output] = run.as_slice() else {
+            panic!(rt; "a statement has no shares");
+        };
+        let from_first = Sent {
+            input: x.second,
+            opened: mul_open(x.first, y.first, dealt.first),
+            output: output.first,
+        };
+        let from_second = Sent {
+            input: y.first,
+            opened: mul_open(x.second, y.second, dealt.second),
+            output: output.second,
+        };
+        assert_eq!(rt; (from_first, from_second), (FROM_FIRST, FROM_SECOND));
+        assert_eq!(rt;
+            (x.word(), y.word(), z.word(), output.word()),
+            (6, 7, 42, 42)
+        );
+        Ok(())
+    }
+
+    fn count_inputs(circuit: &Mixed) -> usize
+        ensures { result ≡ count_inputs circuit.now.statements }
+    {
+        let mut count = 0;
+        for at in 0..circuit.len() {
+            count += inputs_of(circuit.form(at));
+        }
+        count
+    }
+
+    fn inputs_of(form: Form) -> usize
+        ensures value { result ≡ inputs_of form }
+        ensures most { result ≤ 1 }
+    {
+        match form {
+            Form::InputA { .. } => 1,
+            _ => 0,
+        }
+    }
+}
