@@ -3,6 +3,7 @@ mod WordLemmas
 mod CircuitLemmas
 mod ReadingLemmas
 mod ReadLemmas
+mod InputLemmas
 mod BitsLemmas
 mod ListLemmas
 pub mod ValuesLemmas

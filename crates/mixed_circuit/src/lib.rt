@@ -3,6 +3,7 @@
 
 mod builder;
 mod circuit;
+mod inputs;
 mod read;
 mod table;
 mod text;
