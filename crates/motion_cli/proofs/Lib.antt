@@ -1,4 +1,5 @@
 mod ReportLemmas
 mod EndLemmas
+mod LocalLemmas
 mod Dealing
 mod Running

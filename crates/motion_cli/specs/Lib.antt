@@ -4,3 +4,4 @@ pub mod Answer
 pub mod End
 pub mod Deal
 pub mod Run
+pub mod Local

@@ -1,7 +1,6 @@
 -- What a command reports.
 use Rattle.std.specs.Prelude.{ℕ, List, [], ◌∷◌, ◌++◌, codes, option_map, unwrap_or, slice_get}
 use Rattle.std.specs.Fmt.{decimal}
-use Rattle.arithmetic_gmw.specs.Shares.{word_sum}
 use Rattle.mixed_circuit.specs.Text.{Text}
 use Rattle.mixed_circuit.specs.Circuit.{Circuit, Statement}
 use Rattle.mixed_circuit.specs.declared.circuit.Form.{Form}
@@ -40,9 +39,3 @@ party_report statements values party = codes "party " ++ (decimal party ++ (line
 -- the report of `local`: of party 0 and then of party 1
 abbrev pub local_report : Circuit → List ℕ → Text
 local_report c values = party_report c.statements values 0 ++ party_report c.statements values 1
-
--- what two parties' shares recombine to, one by one
-abbrev pub recombined : List ℕ → List ℕ → List ℕ
-recombined [] ys = []
-recombined (x ∷ xs) [] = []
-recombined (x ∷ xs) (y ∷ ys) = word_sum x y ∷ recombined xs ys

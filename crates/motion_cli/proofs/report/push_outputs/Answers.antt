@@ -5,4 +5,4 @@ use Rattle.motion_cli.proofs.report.push_outputs.Goals as goal
 pub loop-at-preserved : goal.loop-at-preserved
 loop-at-preserved c =
     let within : c.loop-at.at < length c.args.circuit.now.statements = omega arith in
-    report_next c.args.circuit.now.statements _ _ _ c.args.first.now c.args.second.now c.loop-at.at _ refl within (omega arith) (omega arith) c.in_ok-push_value.ensures c.loop-at.invariant
+    report_next c.args.circuit.now.statements _ _ _ c.args.shares.now c.loop-at.at _ refl within (omega arith) c.in_ok-push_value.ensures c.loop-at.invariant

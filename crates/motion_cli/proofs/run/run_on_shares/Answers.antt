@@ -7,17 +7,17 @@ use Rattle.motion_cli.proofs.run.run_on_shares.Goals as goal
 pub shares_of-requires-clause-ready : goal.shares_of-requires-clause-ready
 shares_of-requires-clause-ready c =
     ready c.args.circuit.now c.loop-gate.gate _ c.form-form.result c.len.ensures.circuit c.requires.parties
-    (stands _ _ _ c.form-form.ensures) (ap length c.as_slice.ensures.value ∙ c.loop-gate.invariant.count)
+    (stands _ _ _ c.form-form.ensures.value) (ap length c.as_slice.ensures.value ∙ c.loop-gate.invariant.count)
 
 pub shares_of-requires-clause-inputs : goal.shares_of-requires-clause-inputs
 shares_of-requires-clause-inputs c =
     inputs_before c.args.circuit.now.statements c.loop-gate.gate c.form-form.result c.loop-gate.left.now
-    (stands _ _ _ c.form-form.ensures) c.loop-gate.invariant.inputs
+    (stands _ _ _ c.form-form.ensures.value) c.loop-gate.invariant.inputs
 
 pub inputs_left-left-requires : goal.inputs_left-left-requires
 inputs_left-left-requires c =
     inputs_before c.args.circuit.now.statements c.loop-gate.gate c.form-form.result c.loop-gate.left.now
-    (stands _ _ _ c.form-form.ensures) c.loop-gate.invariant.inputs
+    (stands _ _ _ c.form-form.ensures.value) c.loop-gate.invariant.inputs
 
 pub loop-gate-preserved : goal.loop-gate-preserved
 loop-gate-preserved c =
@@ -26,7 +26,7 @@ loop-gate-preserved c =
     let form = c.form-form.result in
     let left = c.loop-gate.left.now in
     let shares = c.loop-gate.shares.items in
-    let here = stands statements gate form c.form-form.ensures in
+    let here = stands statements gate form c.form-form.ensures.value in
     let is = c.in_ok-next.ensures.shares ∙
     ap (λ before. form_shares c.args.seed.now.0 gate c.loop-gate.triple left before form) c.as_slice.ensures.value in
     let value = c.in_ok-next.ensures.value ∙

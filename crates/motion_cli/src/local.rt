@@ -1,0 +1,149 @@
+ghost use Rattle.std.specs.Prelude.{◌≡◌, ◌≤◌, ◌⊎◌, ℕ, ◌<◌, [], length, map, slice_index_or, IfOk};
+ghost use Rattle.mixed_circuit.specs.Bits.{number};
+ghost use Rattle.mixed_circuit.specs.Circuit.{Circuit};
+ghost use Rattle.mixed_circuit.specs.SoFar.{IsReadSoFar};
+ghost use Rattle.mixed_circuit.specs.Table.{inputs_of};
+ghost use Rattle.mixed_circuit.specs.Values.{ReadsValues};
+ghost use Rattle.motion_cli.specs.Answer.{answer_of};
+ghost use Rattle.motion_cli.specs.Local.{LocalAnswers, AfterTexts, AfterCircuit, IsFileFault, report_answer};
+ghost use Rattle.motion_cli.specs.Words.{local_request};
+
+use crate::answer::{Answer, Status};
+use crate::end::end;
+use crate::load::{Loaded, load};
+use crate::report::local_report_of;
+use crate::run::run_on_shares;
+use crate::words::{Command, LocalWords, read_command, read_local};
+use mixed_circuit::{
+    CircuitError, InputTable, Mixed, Values, ValuesError, read_mixed, read_values,
+};
+use mot_base::{Files, NoMemory, Sink};
+use std::alloc::Global;
+
+/// Does all that the program does with the words after its name, and answers the status that it ends with.
+pub fn motion<F: Files, S: Sink>(
+    alloc: Global,
+    words: &[String],
+    files: &mut F,
+    out: &mut S,
+) -> u8 {
+    match read_command(words) {
+        Some(Command::Local(local)) => run_local(alloc, &local, files, out),
+        None => end(out, Status::Usage, "usage\n"),
+    }
+}
+
+/// The command `local`, with the words after it.
+pub fn local_command<F: Files, S: Sink>(
+    alloc: Global,
+    words: &[String],
+    files: &mut F,
+    out: &mut S,
+) -> u8 {
+    match read_local(words) {
+        Some(local) => run_local(alloc, &local, files, out),
+        None => end(out, Status::Usage, "usage\n"),
+    }
+}
+
+fn run_local<F: Files, S: Sink>(
+    alloc: Global,
+    local: &LocalWords<'_>,
+    files: &mut F,
+    out: &mut S,
+) -> u8 {
+    match local_answer(alloc, local, files) {
+        Ok(answer) => end(out, answer.status, answer.text.as_str()),
+        Err(NoMemory) => end(out, Status::Memory, "memory\n"),
+    }
+}
+
+/// What `local` answers: the report, or its first cause for a refusal.
+fn local_answer<F: Files>(
+    alloc: Global,
+    local: &LocalWords<'_>,
+    files: &mut F,
+) -> Result<Answer, NoMemory> {
+    let circuit = match load(alloc, files, local.circuit)? {
+        Loaded::Content(bytes) => bytes,
+        Loaded::Refused(answer) => return Ok(answer),
+    };
+    let values = match load(alloc, files, local.values)? {
+        Loaded::Content(bytes) => bytes,
+        Loaded::Refused(answer) => return Ok(answer),
+    };
+    texts_answer(alloc, local, circuit.as_slice(), values.as_slice())
+}
+
+/// What is answered of the texts of the circuit and of the values.
+fn texts_answer(
+    alloc: Global,
+    local: &LocalWords<'_>,
+    circuit: &[u8],
+    values: &[u8],
+) -> Result<Answer, NoMemory>
+    requires circuit { length circuit.now ≤ 67108864 }
+    requires values { length values.now ≤ 67108864 }
+    ensures { IfOk result (λ answer. AfterTexts (local_request local.entry.now) circuit.now values.now (answer_of answer)) }
+{
+    match read_mixed(alloc, circuit) {
+        Ok(circuit) => circuit_answer(alloc, local, &circuit, values),
+        Err(CircuitError::Refused) => Answer::circuit_refused(alloc, local.circuit),
+        Err(CircuitError::NoMemory) => Err(NoMemory),
+    }
+}
+
+/// What is answered of the text of the values, where the circuit is read.
+fn circuit_answer(
+    alloc: Global,
+    local: &LocalWords<'_>,
+    circuit: &Mixed,
+    values: &[u8],
+) -> Result<Answer, NoMemory>
+    requires parties { circuit.now.parties ≡ 2 }
+    requires values { length values.now ≤ 67108864 }
+    ensures { IfOk result (λ answer. AfterCircuit (local_request local.entry.now) circuit.now values.now (answer_of answer)) }
+{
+    let inputs = circuit.inputs(alloc)?;
+    match read_values(alloc, values, &inputs, None) {
+        Ok(values) => report(alloc, local, circuit, &inputs, &values),
+        Err(ValuesError::Refused) => Answer::values_refused(alloc, local.values),
+        Err(ValuesError::NoMemory) => Err(NoMemory),
+    }
+}
+
+/// The report of the run of a circuit on values.
+fn report(
+    alloc: Global,
+    local: &LocalWords<'_>,
+    circuit: &Mixed,
+    inputs: &InputTable,
+    values: &Values,
+) -> Result<Answer, NoMemory>
+    requires parties { circuit.now.parties ≡ 2 }
+    requires inputs { inputs.now ≡ inputs_of circuit.now.statements }
+    requires count { length values.now ≡ length inputs.now }
+    requires widths { (at : ℕ) → at < length values.now → length (slice_index_or values.now at []) ≡ 64 }
+    ensures { IfOk result (λ answer. answer_of answer ≡ report_answer circuit.now values.now) }
+{
+    let words = words_of(alloc, inputs, values)?;
+    let shares = run_on_shares(alloc, circuit, words.as_slice(), &local.seed)?;
+    let text = local_report_of(alloc, circuit, shares.as_slice())?;
+    Ok(Answer {
+        status: Status::Done,
+        text,
+    })
+}
+
+/// The words of all inputs, in order.
+fn words_of(alloc: Global, inputs: &InputTable, values: &Values) -> Result<Vec<u64>, NoMemory>
+    requires count { length values.now ≡ length inputs.now }
+    requires widths { (at : ℕ) → at < length values.now → length (slice_index_or values.now at []) ≡ 64 }
+    ensures { IfOk result (λ words. words.items ≡ map number values.now) }
+{
+    let mut words = Vec::with_capacity(alloc, inputs.len() as usize)?;
+    for at in 0..inputs.len() {
+        words.push(values.bits(at, 0, 64).word)?;
+    }
+    Ok(words)
+}
