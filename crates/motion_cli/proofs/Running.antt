@@ -8,7 +8,7 @@ use Rattle.std.proofs.Math.Seq.{take-append_seam}
 use Rattle.share_types.specs.declared.MultTriple.{MultTriple}
 use Rattle.share_types.specs.declared.WireType.{WireType}
 use Rattle.share_types.specs.declared.WireType.TheVariants.{A}
-use Rattle.arithmetic_gmw.specs.Shares.{word_sum, word_difference, word_product, total, Recombines, opened_left, opened_right, closed_share}
+use Rattle.arithmetic_gmw.specs.Shares.{word_sum, word_difference, word_product, total, Recombines, closed_share}
 use Rattle.arithmetic_gmw.specs.Laws.{Factors, IsTriple}
 use Rattle.arithmetic_gmw.proofs.Recombining.{product-recombines}
 use Rattle.mixed_circuit.specs.declared.circuit.Form.{Form}
@@ -16,7 +16,7 @@ use Rattle.mixed_circuit.specs.declared.circuit.Form.TheVariants.{InputA, AddA, 
 use Rattle.mixed_circuit.specs.Circuit.{Circuit, Statement, IsCircuit, IsAllowed, wire_at}
 use Rattle.mixed_circuit.specs.Eval.{form_value, inputs_behind, values_behind}
 use Rattle.motion_cli.specs.declared.run.Shares.{Shares}
-use Rattle.motion_cli.specs.Run.{word_of_shares, inputs_of, count_of, count_inputs, count_triples, IsReady, shares_given, form_shares, HasItsShares, IsRun}
+use Rattle.motion_cli.specs.Run.{word_of_shares, inputs_of, count_of, count_inputs, count_triples, IsReady, shares_given, left_opened, right_opened, form_shares, HasItsShares, IsRun}
 
 -- Two parties' product.
 
@@ -27,8 +27,8 @@ abbrev factors : ℕ → ℕ → MultTriple → Factors
 factors x y t = record { left = x; right = y; triple = t }
 
 pub product-word : (x y : Shares) (s t : MultTriple) (d e : ℕ) → IsTriple (s ∷ t ∷ []) →
-    d ≡ word_sum (opened_left x.first s) (opened_left x.second t) →
-    e ≡ word_sum (opened_right y.first s) (opened_right y.second t) →
+    d ≡ left_opened x s t →
+    e ≡ right_opened y s t →
     word_sum (closed_share 0 s d e) (closed_share 1 t d e) ≡ word_product (word_of_shares x) (word_of_shares y)
 product-word x y s t d e triple as_d as_e =
     let product : Recombines (closed_share 0 s d e ∷ closed_share 1 t d e ∷ []) (word_of_shares x * word_of_shares y) = product-recombines (factors x.first y.first s ∷ factors x.second y.second t ∷ []) (word_of_shares x) (word_of_shares y) d e

@@ -70,12 +70,19 @@ input_shares seed gate owner input =
 abbrev pub each_by_itself : (ℕ → ℕ → ℕ) → Shares → Shares → Shares
 each_by_itself f x y = record { first = f x.first y.first; second = f x.second y.second }
 
--- the shares that the parties close a product with, whose parts of a triple these are: d and e are what
--- both open of the left and of the right operand
+-- what both parties open together of the left operand of a product, whose parts of a triple these are
+abbrev pub left_opened : Shares → MultTriple → MultTriple → ℕ
+left_opened x s t = word_sum (opened_left x.first s) (opened_left x.second t)
+
+-- what both parties open together of the right operand
+abbrev pub right_opened : Shares → MultTriple → MultTriple → ℕ
+right_opened y s t = word_sum (opened_right y.first s) (opened_right y.second t)
+
+-- the shares that the parties close a product with
 abbrev pub product_shares : Shares → Shares → MultTriple → MultTriple → Shares
 product_shares x y s t =
-    let d = word_sum (opened_left x.first s) (opened_left x.second t) in
-    let e = word_sum (opened_right y.first s) (opened_right y.second t) in
+    let d = left_opened x s t in
+    let e = right_opened y s t in
     record { first = closed_share 0 s d e; second = closed_share 1 t d e }
 
 -- the shares of the statement at a place

@@ -2,7 +2,7 @@ ghost use Rattle.std.specs.Prelude.{◌≡◌, ◌<◌, ◌≤◌, [], ◌∷◌
 ghost use Rattle.arithmetic_gmw.specs.Laws.{IsTriple};
 ghost use Rattle.arithmetic_gmw.specs.Shares.{word_sum, word_difference, word_product};
 ghost use Rattle.mixed_circuit.specs.Eval.{form_value, inputs_behind, evaluated};
-ghost use Rattle.motion_cli.specs.Run.{word_of_shares, count_inputs, inputs_of, triples_of, IsReady, input_shares, each_by_itself, product_shares, form_shares, IsRun};
+ghost use Rattle.motion_cli.specs.Run.{word_of_shares, count_inputs, inputs_of, triples_of, IsReady, input_shares, each_by_itself, left_opened, right_opened, product_shares, form_shares, IsRun};
 
 use crate::deal::{DealtTriple, dealt_triple};
 use arithmetic_gmw::{add, mul_close, mul_open, share_out, sub};
@@ -11,7 +11,7 @@ use mot_base::{NoMemory, Party, Seed, derive};
 use std::alloc::Global;
 
 /// The shares of one word: party 0's and party 1's.
-#[derive(Clone, Copy, Debug, PartialEq, Eq)]
+#[derive(Clone, Copy, Debug)]
 pub(crate) struct Shares {
     pub(crate) first: u64,
     pub(crate) second: u64,
@@ -153,21 +153,29 @@ fn difference(x: Shares, y: Shares) -> Shares
     }
 }
 
-/// The shares of a product, for which both parties open what the parts of a triple leave of the
-/// operands.
+/// The shares of a product, which each party closes with what both open together.
 fn product(x: Shares, y: Shares, dealt: DealtTriple) -> Shares
     requires { IsTriple (dealt.first ∷ dealt.second ∷ []) }
     ensures shares { result ≡ product_shares x y dealt.first dealt.second }
     ensures value { word_of_shares result ≡ word_product (word_of_shares x) (word_of_shares y) }
 {
-    let (first_d, first_e) = mul_open(x.first, y.first, dealt.first);
-    let (second_d, second_e) = mul_open(x.second, y.second, dealt.second);
-    let d = first_d.wrapping_add(second_d);
-    let e = first_e.wrapping_add(second_e);
+    let (d, e) = opened_together(x, y, dealt);
     Shares {
         first: mul_close(Party(0), dealt.first, d, e),
         second: mul_close(Party(1), dealt.second, d, e),
     }
+}
+
+/// The sums of what both parties open of the left and of the right operand of a product.
+fn opened_together(x: Shares, y: Shares, dealt: DealtTriple) -> (u64, u64)
+    ensures left { result.0 ≡ left_opened x dealt.first dealt.second }
+    ensures right { result.1 ≡ right_opened y dealt.first dealt.second }
+{
+    let first = mul_open(x.first, y.first, dealt.first);
+    let second = mul_open(x.second, y.second, dealt.second);
+    let d = first.0.wrapping_add(second.0);
+    let e = first.1.wrapping_add(second.1);
+    (d, e)
 }
 
 #[cfg(test)]

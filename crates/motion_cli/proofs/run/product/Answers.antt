@@ -5,6 +5,4 @@ use Rattle.motion_cli.proofs.run.product.Goals as goal
 
 pub returns-clause-value : goal.returns-clause-value
 returns-clause-value c = ap₂ word_sum c.mul_close.ensures c.mul_close-2.ensures ∙
-    product-word c.args.x c.args.y c.args.dealt.first c.args.dealt.second _ _ c.requires
-    (ap₂ word_sum c.mul_open-first_d.ensures.left c.mul_open-second_d.ensures.left)
-    (ap₂ word_sum c.mul_open-first_d.ensures.right c.mul_open-second_d.ensures.right)
+    product-word c.args.x c.args.y c.args.dealt.first c.args.dealt.second _ _ c.requires c.opened_together-d.ensures.left c.opened_together-d.ensures.right

@@ -1,4 +1,4 @@
-use Rattle.std.proofs.Common.{◌≡◌, ◌+◌, arith, rules}
+use Rattle.std.proofs.Common.{arith}
 use Rattle.motion_cli.proofs.Running.{stands, count_next}
 use Rattle.motion_cli.proofs.run.tests.count_inputs.Goals as goal
 
