@@ -1,7 +1,7 @@
 //! The program on a machine in memory.
 use mot_base::{MemFiles, MemSink};
-use motion_cli::motion;
-use std::alloc::Global;
+use motion_cli::{local_command, motion};
+use std::alloc::{AllocError, Global};
 use std::test::Fail;
 
 /// The word of a seed.
@@ -47,10 +47,16 @@ impl<'a> Machine<'a> {
 
     /// Runs the program on the words after its name.
     pub(crate) fn run(&self, alloc: Global, words: &[&str]) -> Result<End, Fail> {
-        let files = self.files(alloc)?;
-        let failing = Vec::from_slice(alloc, self.failing_writes)?;
-        let out = MemSink::new(alloc, self.room, failing)?;
-        run_over(alloc, words, files, out)
+        run_over(alloc, words, self.files(alloc)?, self.out(alloc)?)
+    }
+
+    /// Runs the command `local` on the words after it.
+    pub(crate) fn run_local(&self, alloc: Global, words: &[&str]) -> Result<End, Fail> {
+        let words = strings(alloc, words)?;
+        let mut files = self.files(alloc)?;
+        let mut out = self.out(alloc)?;
+        let status = local_command(alloc, words.as_slice(), &mut files, &mut out);
+        Ok(End { status, out })
     }
 
     fn files(&self, alloc: Global) -> Result<MemFiles, Fail> {
@@ -67,6 +73,11 @@ impl<'a> Machine<'a> {
         let failing = Vec::from_slice(alloc, self.failing_loads)?;
         Ok(MemFiles::new(names, contents, failing))
     }
+
+    fn out(&self, alloc: Global) -> Result<MemSink, Fail> {
+        let failing = Vec::from_slice(alloc, self.failing_writes)?;
+        Ok(MemSink::new(alloc, self.room, failing)?)
+    }
 }
 
 /// Runs the program on the words after its name, over these files and this output.
@@ -76,10 +87,14 @@ pub(crate) fn run_over(
     mut files: MemFiles,
     mut out: MemSink,
 ) -> Result<End, Fail> {
-    let words: Vec<String> = words
-        .iter()
-        .map(|word| String::from_str(alloc, word))
-        .try_collect(alloc)?;
+    let words = strings(alloc, words)?;
     let status = motion(alloc, words.as_slice(), &mut files, &mut out);
     Ok(End { status, out })
+}
+
+fn strings(alloc: Global, words: &[&str]) -> Result<Vec<String>, AllocError> {
+    words
+        .iter()
+        .map(|word| String::from_str(alloc, word))
+        .try_collect(alloc)
 }

@@ -196,6 +196,15 @@ static REFUSALS: [Refusal; 17] = [
 ];
 
 #[test]
+fn the_command_refuses_its_own_name(rt: HostRuntime) -> Result<(), Fail> {
+    let words = ["local", "product", "both", SEED];
+    let end = Machine::new(&FILES).run_local(rt.alloc(), &words)?;
+    assert_eq!(rt; end.written(), b"usage\n".as_slice());
+    assert_eq!(rt; end.status, 1);
+    Ok(())
+}
+
+#[test]
 fn the_first_cause_is_told(rt: HostRuntime) -> Result<(), Fail> {
     for refusal in &REFUSALS {
         let machine = Machine {

@@ -71,17 +71,7 @@ static REPORTS: [Report; 10] = [
     },
 ];
 
-#[test]
-fn both_parties_learn_the_outputs(rt: HostRuntime) -> Result<(), Fail> {
-    for report in &REPORTS {
-        let files = [("c", report.circuit), ("v", report.values)];
-        let end = Machine::new(&files).run(rt.alloc(), &["local", "c", "v", SEED])?;
-        assert_eq!(rt; end.written(), report.printed.as_bytes());
-        assert_eq!(rt; end.status, 0, "{}", report.circuit);
-    }
-    Ok(())
-}
-
+// seeds of digits of both cases
 static SEEDS: [&str; 3] = [
     SEED,
     "ffffffffffffffffffffffffffffffffffffffffffffffffffffffffffffffff",
@@ -89,13 +79,35 @@ static SEEDS: [&str; 3] = [
 ];
 
 #[test]
-fn the_seed_does_not_change_the_report(rt: HostRuntime) -> Result<(), Fail> {
-    for seed in &SEEDS {
-        for report in &REPORTS {
-            let files = [("c", report.circuit), ("v", report.values)];
+fn both_parties_learn_the_outputs_under_each_seed(rt: HostRuntime) -> Result<(), Fail> {
+    for report in &REPORTS {
+        let files = [("c", report.circuit), ("v", report.values)];
+        for seed in &SEEDS {
             let end = Machine::new(&files).run(rt.alloc(), &["local", "c", "v", seed])?;
-            assert_eq!(rt; end.written(), report.printed.as_bytes(), "{seed}");
+            assert_eq!(rt;
+                end.written(),
+                report.printed.as_bytes(),
+                "{}",
+                report.circuit
+            );
+            assert_eq!(rt; end.status, 0, "{}", report.circuit);
         }
+    }
+    Ok(())
+}
+
+#[test]
+fn the_command_is_called_without_its_name(rt: HostRuntime) -> Result<(), Fail> {
+    for report in &REPORTS {
+        let files = [("c", report.circuit), ("v", report.values)];
+        let end = Machine::new(&files).run_local(rt.alloc(), &["c", "v", SEED])?;
+        assert_eq!(rt;
+            end.written(),
+            report.printed.as_bytes(),
+            "{}",
+            report.circuit
+        );
+        assert_eq!(rt; end.status, 0, "{}", report.circuit);
     }
     Ok(())
 }
