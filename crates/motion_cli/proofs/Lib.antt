@@ -3,3 +3,4 @@ mod EndLemmas
 mod LocalLemmas
 mod Dealing
 mod Running
+mod MotionLemmas

@@ -26,6 +26,12 @@ Writes faults_before faults_after before after answer status =
     ((after ≡ with_more before answer.text) × (status ≡ answer.status))
     ⊎ (Rose faults_before faults_after × IsCut before after answer × (status ≡ cut_status answer))
 
+-- a call ended with an answer that these causes lead to, and this was written of it
+pub record Ended (causes : Answer → Type 0) (faults_before faults_after : ℕ) (before after : Option Text) (status : ℕ) : Type 0 where
+  pub answer : Answer
+  pub cause : causes answer
+  pub written : Writes faults_before faults_after before after answer status
+
 -- what the load of a file gave: its content, or the answer that the command ends with
 abbrev pub IsLoaded : Option Holding → ℕ → ℕ → Text → Loaded → Type 0
 IsLoaded told faults_before faults_after name (Content bytes) = IsContent told name bytes.items

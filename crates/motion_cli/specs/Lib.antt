@@ -5,3 +5,4 @@ pub mod End
 pub mod Deal
 pub mod Run
 pub mod Local
+pub mod Motion

@@ -12,7 +12,7 @@ use Rattle.mixed_circuit.specs.Values.{ReadsValues}
 use Rattle.mixed_circuit.specs.Eval.{evaluated}
 use Rattle.motion_cli.specs.Report.{local_report}
 use Rattle.motion_cli.specs.Words.{LocalRequest}
-use Rattle.motion_cli.specs.Answer.{Answer, AfterLoad, circuit_answer, values_answer, fault_answer}
+use Rattle.motion_cli.specs.Answer.{Answer, AfterLoad, circuit_answer, values_answer, fault_answer, memory_answer}
 
 -- the report of a circuit's plain evaluation on values, a list of bits for each input
 abbrev pub report_answer : Circuit → List (List Bool) → Answer
@@ -36,7 +36,14 @@ abbrev pub LocalAnswers : Option Holding → LocalRequest → Answer → Type 0
 LocalAnswers told request answer =
     AfterLoad told request.circuit (λ circuit. AfterLoad told request.values (AfterTexts request circuit)) answer
 
--- the answer where a file of the command failed, as the files' count of faults shows
-abbrev pub IsFileFault : ℕ → ℕ → LocalRequest → Answer → Type 0
-IsFileFault before after request answer =
-    Rose before after × ((answer ≡ fault_answer request.circuit) ⊎ (answer ≡ fault_answer request.values))
+-- the answer where the load of a file failed, as the files' count of faults shows
+abbrev pub IsFault : ℕ → ℕ → Text → Answer → Type 0
+IsFault before after name answer = Rose before after × (answer ≡ fault_answer name)
+
+-- what `local` ends with: what it answers, or the fault of one of its files, or want of memory
+abbrev pub LocalEnds : Option Holding → ℕ → ℕ → LocalRequest → Answer → Type 0
+LocalEnds told before after request answer =
+    LocalAnswers told request answer
+    ⊎ (IsFault before after request.circuit answer
+    ⊎ (IsFault before after request.values answer
+    ⊎ (answer ≡ memory_answer)))

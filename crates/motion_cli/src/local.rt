@@ -4,9 +4,11 @@ ghost use Rattle.mixed_circuit.specs.Circuit.{Circuit};
 ghost use Rattle.mixed_circuit.specs.SoFar.{IsReadSoFar};
 ghost use Rattle.mixed_circuit.specs.Table.{inputs_of};
 ghost use Rattle.mixed_circuit.specs.Values.{ReadsValues};
-ghost use Rattle.motion_cli.specs.Answer.{answer_of};
-ghost use Rattle.motion_cli.specs.Local.{LocalAnswers, AfterTexts, AfterCircuit, IsFileFault, report_answer};
-ghost use Rattle.motion_cli.specs.Words.{local_request};
+ghost use Rattle.motion_cli.specs.Answer.{AfterLoad, answer_of};
+ghost use Rattle.motion_cli.specs.End.{Ended};
+ghost use Rattle.motion_cli.specs.Local.{LocalAnswers, LocalEnds, IsFault, AfterTexts, AfterCircuit, report_answer};
+ghost use Rattle.motion_cli.specs.Motion.{RequestEnds, LocalCommandEnds, MotionEnds};
+ghost use Rattle.motion_cli.specs.Words.{local_request, request_of, texts};
 
 use crate::answer::{Answer, Status};
 use crate::end::end;
@@ -21,15 +23,29 @@ use mot_base::{Files, NoMemory, Sink};
 use std::alloc::Global;
 
 /// Does all that the program does with the words after its name, and answers the status that it ends with.
-pub fn motion<F: Files, S: Sink>(
-    alloc: Global,
-    words: &[String],
-    files: &mut F,
-    out: &mut S,
-) -> u8 {
+pub fn motion<F: Files, S: Sink>(alloc: Global, words: &[String], files: &mut F, out: &mut S) -> u8
+    ensures ended { Ended (MotionEnds (F.holds files.old) (F.faults files.old) (F.faults files.new) (texts words.entry.now))
+        (S.faults out.old) (S.faults out.new) (S.appended out.old) (S.appended out.new) result }
+    ensures same { F.holds files.new ≡ F.holds files.old }
+    ensures files_never_fall { F.faults files.old ≤ F.faults files.new }
+    ensures out_never_falls { S.faults out.old ≤ S.faults out.new }
+{
     match read_command(words) {
-        Some(Command::Local(local)) => run_local(alloc, &local, files, out),
+        Some(command) => run(alloc, command, files, out),
         None => end(out, Status::Usage, "usage\n"),
+    }
+}
+
+/// Runs a command, and writes what it answers.
+fn run<F: Files, S: Sink>(alloc: Global, command: Command<'_>, files: &mut F, out: &mut S) -> u8
+    ensures ended { Ended (RequestEnds (F.holds files.old) (F.faults files.old) (F.faults files.new) (request_of command.entry))
+        (S.faults out.old) (S.faults out.new) (S.appended out.old) (S.appended out.new) result }
+    ensures same { F.holds files.new ≡ F.holds files.old }
+    ensures files_never_fall { F.faults files.old ≤ F.faults files.new }
+    ensures out_never_falls { S.faults out.old ≤ S.faults out.new }
+{
+    match command {
+        Command::Local(local) => run_local(alloc, &local, files, out),
     }
 }
 
@@ -39,19 +55,32 @@ pub fn local_command<F: Files, S: Sink>(
     words: &[String],
     files: &mut F,
     out: &mut S,
-) -> u8 {
+) -> u8
+    ensures ended { Ended (LocalCommandEnds (F.holds files.old) (F.faults files.old) (F.faults files.new) (texts words.entry.now))
+        (S.faults out.old) (S.faults out.new) (S.appended out.old) (S.appended out.new) result }
+    ensures same { F.holds files.new ≡ F.holds files.old }
+    ensures files_never_fall { F.faults files.old ≤ F.faults files.new }
+    ensures out_never_falls { S.faults out.old ≤ S.faults out.new }
+{
     match read_local(words) {
         Some(local) => run_local(alloc, &local, files, out),
         None => end(out, Status::Usage, "usage\n"),
     }
 }
 
+/// Runs `local`, and writes what it answers.
 fn run_local<F: Files, S: Sink>(
     alloc: Global,
     local: &LocalWords<'_>,
     files: &mut F,
     out: &mut S,
-) -> u8 {
+) -> u8
+    ensures ended { Ended (LocalEnds (F.holds files.old) (F.faults files.old) (F.faults files.new) (local_request local.entry.now))
+        (S.faults out.old) (S.faults out.new) (S.appended out.old) (S.appended out.new) result }
+    ensures same { F.holds files.new ≡ F.holds files.old }
+    ensures files_never_fall { F.faults files.old ≤ F.faults files.new }
+    ensures out_never_falls { S.faults out.old ≤ S.faults out.new }
+{
     match local_answer(alloc, local, files) {
         Ok(answer) => end(out, answer.status, answer.text.as_str()),
         Err(NoMemory) => end(out, Status::Memory, "memory\n"),
@@ -63,16 +92,38 @@ fn local_answer<F: Files>(
     alloc: Global,
     local: &LocalWords<'_>,
     files: &mut F,
-) -> Result<Answer, NoMemory> {
-    let circuit = match load(alloc, files, local.circuit)? {
-        Loaded::Content(bytes) => bytes,
-        Loaded::Refused(answer) => return Ok(answer),
-    };
-    let values = match load(alloc, files, local.values)? {
-        Loaded::Content(bytes) => bytes,
-        Loaded::Refused(answer) => return Ok(answer),
-    };
-    texts_answer(alloc, local, circuit.as_slice(), values.as_slice())
+) -> Result<Answer, NoMemory>
+    ensures answer { IfOk result (λ answer.
+        LocalAnswers (F.holds files.old) (local_request local.entry.now) (answer_of answer)
+        ⊎ (IsFault (F.faults files.old) (F.faults files.new) local.entry.now.circuit.now (answer_of answer)
+        ⊎ IsFault (F.faults files.old) (F.faults files.new) local.entry.now.values.now (answer_of answer))) }
+    ensures same { F.holds files.new ≡ F.holds files.old }
+    ensures never_falls { F.faults files.old ≤ F.faults files.new }
+{
+    match load(alloc, files, local.circuit)? {
+        Loaded::Content(circuit) => loaded_answer(alloc, local, circuit.as_slice(), files),
+        Loaded::Refused(answer) => Ok(answer),
+    }
+}
+
+/// What is answered where the circuit is loaded.
+fn loaded_answer<F: Files>(
+    alloc: Global,
+    local: &LocalWords<'_>,
+    circuit: &[u8],
+    files: &mut F,
+) -> Result<Answer, NoMemory>
+    requires circuit { length circuit.now ≤ 67108864 }
+    ensures answer { IfOk result (λ answer.
+        AfterLoad (F.holds files.old) local.entry.now.values.now (AfterTexts (local_request local.entry.now) circuit.now) (answer_of answer)
+        ⊎ IsFault (F.faults files.old) (F.faults files.new) local.entry.now.values.now (answer_of answer)) }
+    ensures same { F.holds files.new ≡ F.holds files.old }
+    ensures never_falls { F.faults files.old ≤ F.faults files.new }
+{
+    match load(alloc, files, local.values)? {
+        Loaded::Content(values) => texts_answer(alloc, local, circuit, values.as_slice()),
+        Loaded::Refused(answer) => Ok(answer),
+    }
 }
 
 /// What is answered of the texts of the circuit and of the values.
