@@ -1,0 +1,11 @@
+//! Tests of the program over files and an output in memory: what it prints, and with what status it ends.
+#![tactic(auto)]
+
+#[cfg(test)]
+mod machine;
+#[cfg(test)]
+mod output;
+#[cfg(test)]
+mod refusals;
+#[cfg(test)]
+mod reports;

@@ -1,0 +1,100 @@
+//! The program on a machine in memory.
+use mot_base::{MemFiles, MemSink};
+use motion_cli::{local_command, motion};
+use std::alloc::{AllocError, Global};
+use std::test::Fail;
+
+/// The word of a seed.
+pub(crate) const SEED: &str = "0000000000000000000000000000000000000000000000000000000000000000";
+
+/// Files and an output in memory.
+#[derive(Drop)]
+pub(crate) struct Machine<'a> {
+    /// The name of each file and its content.
+    pub(crate) files: &'a [(&'a str, &'a str)],
+    /// The numbers, from 1, of the loads that fail.
+    pub(crate) failing_loads: &'a [u64],
+    /// How many bytes the output takes.
+    pub(crate) room: usize,
+    /// The numbers, from 1, of the writes that fail.
+    pub(crate) failing_writes: &'a [u64],
+}
+
+/// How the program ended.
+#[derive(Drop)]
+pub(crate) struct End {
+    pub(crate) status: u8,
+    out: MemSink,
+}
+
+impl End {
+    /// What the program wrote.
+    pub(crate) fn written(&self) -> &[u8] {
+        self.out.bytes()
+    }
+}
+
+impl<'a> Machine<'a> {
+    /// A machine with these files, no faults, and room enough.
+    pub(crate) fn new(files: &'a [(&'a str, &'a str)]) -> Machine<'a> {
+        Machine {
+            files,
+            failing_loads: &[],
+            room: 1000,
+            failing_writes: &[],
+        }
+    }
+
+    /// Runs the program on the words after its name.
+    pub(crate) fn run(&self, alloc: Global, words: &[&str]) -> Result<End, Fail> {
+        run_over(alloc, words, self.files(alloc)?, self.out(alloc)?)
+    }
+
+    /// Runs the command `local` on the words after it.
+    pub(crate) fn run_local(&self, alloc: Global, words: &[&str]) -> Result<End, Fail> {
+        let words = strings(alloc, words)?;
+        let mut files = self.files(alloc)?;
+        let mut out = self.out(alloc)?;
+        let status = local_command(alloc, words.as_slice(), &mut files, &mut out);
+        Ok(End { status, out })
+    }
+
+    fn files(&self, alloc: Global) -> Result<MemFiles, Fail> {
+        let names: Vec<String> = self
+            .files
+            .iter()
+            .map(|(name, _)| String::from_str(alloc, name))
+            .try_collect(alloc)?;
+        let contents: Vec<Vec<u8>> = self
+            .files
+            .iter()
+            .map(|(_, content)| Vec::from_slice(alloc, content.as_bytes()))
+            .try_collect(alloc)?;
+        let failing = Vec::from_slice(alloc, self.failing_loads)?;
+        Ok(MemFiles::new(names, contents, failing))
+    }
+
+    fn out(&self, alloc: Global) -> Result<MemSink, Fail> {
+        let failing = Vec::from_slice(alloc, self.failing_writes)?;
+        Ok(MemSink::new(alloc, self.room, failing)?)
+    }
+}
+
+/// Runs the program on the words after its name, over these files and this output.
+pub(crate) fn run_over(
+    alloc: Global,
+    words: &[&str],
+    mut files: MemFiles,
+    mut out: MemSink,
+) -> Result<End, Fail> {
+    let words = strings(alloc, words)?;
+    let status = motion(alloc, words.as_slice(), &mut files, &mut out);
+    Ok(End { status, out })
+}
+
+fn strings(alloc: Global, words: &[&str]) -> Result<Vec<String>, AllocError> {
+    words
+        .iter()
+        .map(|word| String::from_str(alloc, word))
+        .try_collect(alloc)
+}

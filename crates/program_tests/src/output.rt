@@ -1,0 +1,108 @@
+//! An output that takes no more, or fails.
+use crate::machine::{Machine, SEED};
+use std::test::Fail;
+
+static FILES: [(&str, &str); 3] = [
+    (
+        "product",
+        "mixed 1\nparties 2\nx = input 0 A\ny = input 1 A\nz = mul x y\noutput z all\n",
+    ),
+    ("both", "x = 6\ny = 7\n"),
+    ("empty", ""),
+];
+
+const REPORT: &[&str] = &["local", "product", "both", SEED];
+
+const BAD_CIRCUIT: &[&str] = &["local", "empty", "both", SEED];
+
+struct Writing {
+    words: &'static [&'static str],
+    room: usize,
+    failing_writes: &'static [u64],
+    written: &'static str,
+    status: u8,
+}
+
+static WRITINGS: [Writing; 9] = [
+    // a report that is cut is not done
+    Writing {
+        words: REPORT,
+        room: 30,
+        failing_writes: &[],
+        written: "party 0\nz = 42\nparty 1\nz = 42\n",
+        status: 0,
+    },
+    Writing {
+        words: REPORT,
+        room: 29,
+        failing_writes: &[],
+        written: "party 0\nz = 42\nparty 1\nz = 42",
+        status: 9,
+    },
+    Writing {
+        words: REPORT,
+        room: 10,
+        failing_writes: &[],
+        written: "party 0\nz ",
+        status: 9,
+    },
+    Writing {
+        words: REPORT,
+        room: 0,
+        failing_writes: &[],
+        written: "",
+        status: 9,
+    },
+    Writing {
+        words: REPORT,
+        room: 30,
+        failing_writes: &[1],
+        written: "",
+        status: 9,
+    },
+    // a refusal keeps its status
+    Writing {
+        words: &[],
+        room: 3,
+        failing_writes: &[],
+        written: "usa",
+        status: 1,
+    },
+    Writing {
+        words: BAD_CIRCUIT,
+        room: 100,
+        failing_writes: &[1],
+        written: "",
+        status: 2,
+    },
+    Writing {
+        words: &["local", "product", "empty", SEED],
+        room: 6,
+        failing_writes: &[],
+        written: "values",
+        status: 3,
+    },
+    Writing {
+        words: &["local", "product", "nothing", SEED],
+        room: 0,
+        failing_writes: &[],
+        written: "",
+        status: 8,
+    },
+];
+
+#[test]
+fn a_cut_report_ends_with_its_own_status(rt: HostRuntime) -> Result<(), Fail> {
+    for writing in &WRITINGS {
+        let machine = Machine {
+            files: &FILES,
+            failing_loads: &[],
+            room: writing.room,
+            failing_writes: writing.failing_writes,
+        };
+        let end = machine.run(rt.alloc(), writing.words)?;
+        assert_eq!(rt; end.written(), writing.written.as_bytes());
+        assert_eq!(rt; end.status, writing.status, "room {}", writing.room);
+    }
+    Ok(())
+}

@@ -1,0 +1,113 @@
+//! Circuits, the values of their inputs, and what is printed.
+use crate::machine::{Machine, SEED};
+use std::test::Fail;
+
+struct Report {
+    circuit: &'static str,
+    values: &'static str,
+    printed: &'static str,
+}
+
+static REPORTS: [Report; 10] = [
+    // the product of a number of each party
+    Report {
+        circuit: "mixed 1\nparties 2\nx = input 0 A\ny = input 1 A\nz = mul x y\noutput z all\n",
+        values: "x = 6\ny = 7\n",
+        printed: "party 0\nz = 42\nparty 1\nz = 42\n",
+    },
+    // a product modulo 2^64, of one value with itself
+    Report {
+        circuit: "mixed 1\nparties 2\nx = input 0 A\nz = mul x x\noutput z all\n",
+        values: "x = 4294967296\n",
+        printed: "party 0\nz = 0\nparty 1\nz = 0\n",
+    },
+    // a difference modulo 2^64
+    Report {
+        circuit: "mixed 1\nparties 2\nx = input 0 A\ny = input 1 A\nz = sub x y\noutput z all\n",
+        values: "x = 3\ny = 5\n",
+        printed: "party 0\nz = 18446744073709551614\nparty 1\nz = 18446744073709551614\n",
+    },
+    // a sum modulo 2^64
+    Report {
+        circuit: "mixed 1\nparties 2\nx = input 0 A\ny = input 1 A\nz = add x y\noutput z all\n",
+        values: "x = 18446744073709551615\ny = 3\n",
+        printed: "party 0\nz = 2\nparty 1\nz = 2\n",
+    },
+    // an input alone
+    Report {
+        circuit: "mixed 1\nparties 2\nx = input 0 A\noutput x all\n",
+        values: "x = 18446744073709551615\n",
+        printed: "party 0\nx = 18446744073709551615\nparty 1\nx = 18446744073709551615\n",
+    },
+    // a product of a sum, then of that product
+    Report {
+        circuit: "mixed 1\nparties 2\nx = input 0 A\ny = input 1 A\ns = add x y\np = mul s x\nq = mul p s\noutput q all\n",
+        values: "y = 3\nx = 2\n",
+        printed: "party 0\nq = 50\nparty 1\nq = 50\n",
+    },
+    // outputs in the order of their statements, one of them twice, and one before the last value
+    Report {
+        circuit: "mixed 1\nparties 2\nx = input 1 A\ny = input 0 A\noutput y all\nd = sub y x\noutput d all\noutput y all\n",
+        values: "x = 4\ny = 9\n",
+        printed: "party 0\ny = 9\nd = 5\ny = 9\nparty 1\ny = 9\nd = 5\ny = 9\n",
+    },
+    // inputs of party 1 only
+    Report {
+        circuit: "mixed 1\nparties 2\nx = input 1 A\ny = input 1 A\nz = mul x y\noutput z all\n",
+        values: "x = 11\ny = 12\n",
+        printed: "party 0\nz = 132\nparty 1\nz = 132\n",
+    },
+    // no output
+    Report {
+        circuit: "mixed 1\nparties 2\nx = input 0 A\n",
+        values: "x = 6\n",
+        printed: "party 0\nparty 1\n",
+    },
+    // no statement
+    Report {
+        circuit: "mixed 1\nparties 2\n",
+        values: "",
+        printed: "party 0\nparty 1\n",
+    },
+];
+
+// seeds of digits of both cases
+static SEEDS: [&str; 3] = [
+    SEED,
+    "ffffffffffffffffffffffffffffffffffffffffffffffffffffffffffffffff",
+    "0123456789abcdefABCDEF9876543210000000000000000000000000deadBEEF",
+];
+
+#[test]
+fn both_parties_learn_the_outputs_under_each_seed(rt: HostRuntime) -> Result<(), Fail> {
+    for report in &REPORTS {
+        let files = [("c", report.circuit), ("v", report.values)];
+        for seed in &SEEDS {
+            let end = Machine::new(&files).run(rt.alloc(), &["local", "c", "v", seed])?;
+            assert_eq!(rt;
+                end.written(),
+                report.printed.as_bytes(),
+                "{}",
+                report.circuit
+            );
+            assert_eq!(rt; end.status, 0, "{}", report.circuit);
+        }
+    }
+    Ok(())
+}
+
+#[test]
+fn the_command_is_called_without_its_name(rt: HostRuntime) -> Result<(), Fail> {
+    for report in &REPORTS {
+        let files = [("c", report.circuit), ("v", report.values)];
+        let end = Machine::new(&files).run_local(rt.alloc(), &["c", "v", SEED])?;
+        assert_eq!(rt;
+            end.written(),
+            report.printed.as_bytes(),
+            "{}",
+            report.circuit
+        );
+        assert_eq!(rt; end.status, 0, "{}", report.circuit);
+    }
+    Ok(())
+}
