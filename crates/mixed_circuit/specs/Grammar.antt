@@ -76,3 +76,7 @@ pub record Reads (text : Text) (c : Circuit) : Type 0 where
   pub most_parties : c.parties ≤ 8
   pub few : length c.statements ≤ max_statements
   pub statements : Say c.parties [] body c.statements
+
+-- a text reads as at most one circuit
+abbrev pub ReadsOneCircuit : Type 0
+ReadsOneCircuit = (text : Text) (c d : Circuit) → Reads text c → Reads text d → c ≡ d

@@ -1,7 +1,7 @@
 ghost use Rattle.std.specs.Prelude.{ℕ, List, ◌≡◌, ◌≤◌, ◌<◌, ◌↔◌, ◌&&◌, true, [], ◌∷◌, length, map, Some, IfSome, IfNone, IfOk, OnOk, not, IsErrOf, IsTrue, false, codes};
 ghost use Rattle.std.specs.List.{list_all};
 ghost use Rattle.mixed_circuit.specs.Text.{Text, is_allowed, line_words};
-ghost use Rattle.mixed_circuit.specs.Grammar.{content, Reads};
+ghost use Rattle.mixed_circuit.specs.Grammar.{content, Reads, ReadsOneCircuit};
 ghost use Rattle.mixed_circuit.specs.Word.{number_of, begins_hexadecimal};
 ghost use Rattle.mixed_circuit.specs.Circuit.{Circuit, Statement, IsCircuit, no_statements};
 ghost use Rattle.mixed_circuit.specs.Reading.{ReadsLines, SaysSoFar, AddsLine, Adds, SaysAssigned, SaysOutput, SaysValue, SaysInput, SaysPair, operation_word, IsPartiesLine};
@@ -51,6 +51,11 @@ pub fn read_mixed(alloc: Global, bytes: &[u8]) -> Result<Mixed, CircuitError>
     let lines = lines_of(alloc, bytes)?;
     read_lines(alloc, lines.as_slice())
 }
+
+/// A text reads as at most one circuit.
+pub fn reads_one_circuit()
+    ensures { ReadsOneCircuit }
+{}
 
 /// Reads a circuit from the lines of its text.
 fn read_lines(alloc: Global, lines: &[&[u8]]) -> Result<Mixed, CircuitError>
