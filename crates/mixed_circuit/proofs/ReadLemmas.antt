@@ -1,5 +1,5 @@
 -- A text that reads as a circuit, and its lines one after another.
-use Rattle.std.proofs.Common.{ℕ, ◌≡◌, ◌<◌, ◌≤◌, ◌+◌, ◌&&◌, Bool, true, List, [], ◌∷◌, ◌++◌, length, Some, Ok, Err, Result, refl, sym, ◌∙◌, ap, ap₂, subst, arith, append_assoc, append-nil}
+use Rattle.std.proofs.Common.{ℕ, ◌≡◌, ◌<◌, ◌≤◌, ◌+◌, ◌&&◌, true, List, [], ◌∷◌, ◌++◌, length, Some, Ok, Err, Result, refl, sym, ◌∙◌, ap, ap₂, subst, arith, append_assoc, append-nil}
 use Rattle.std.specs.Prelude.{IfOk, codes}
 use Rattle.std.specs.List.{list_all}
 use Rattle.std.proofs.lemmas.List.{length-append}
@@ -10,8 +10,9 @@ use Rattle.mixed_circuit.specs.Grammar.{Say, Reads, ReadsOneCircuit, content}
 use Rattle.mixed_circuit.specs.SoFar.{IsReadSoFar, is_told_to_all, no_comment}
 use Rattle.mixed_circuit.specs.Reading.{Adds, AddsLine, ReadsLines, IsPartiesLine}
 use Rattle.mixed_circuit.specs.declared.read.CircuitError.{CircuitError}
-use Rattle.mixed_circuit.proofs.WordLemmas.{both_true}
-use Rattle.mixed_circuit.proofs.ReadingLemmas.{same_number, says_unique}
+use Rattle.mixed_circuit.proofs.WordLemmas.{both, both_true}
+use Rattle.mixed_circuit.proofs.ReadingLemmas.{says_unique}
+use Rattle.mixed_circuit.proofs.ListLemmas.{same_some}
 use Rattle.mixed_circuit.proofs.CircuitLemmas.{IsCircuit-push}
 
 -- the circuit with more statements
@@ -34,12 +35,9 @@ added_first c line lines next after adds added =
       more = adds.0 ∷ behind.more;
       is = behind.is ∙ ap (λ (ss : List Statement). let circuit : Circuit = record { parties = c.parties; statements = ss } in circuit) (append_assoc c.statements (adds.0 ∷ []) behind.more);
       said = (adds.1.0, behind.said);
-      told = both_told (is_told_to_all adds.0.form) _ adds.1.1 behind.told;
+      told = both (is_told_to_all adds.0.form) _ adds.1.1 behind.told;
       few = behind.few;
     }
-  where
-    both_told : (a b : Bool) → a ≡ true → b ≡ true → (a && b) ≡ true
-    both_told a b e f = ap (λ x. x && b) e ∙ f
 
 pub adds_said : (c : Circuit) (lines : List (List Text)) (after : Circuit) → length c.statements ≤ max_statements → Adds c lines after → AddedBy c lines after
 adds_said c [] after few adds = record {
@@ -106,7 +104,7 @@ read_lines_of text c reads so_far =
 pub parties_unique : (line : List Text) (m n : ℕ) → IsPartiesLine line m → IsPartiesLine line n → m ≡ n
 parties_unique line m n h k =
     let word : h.0 ≡ k.0 = cc in
-    same_number (sym h.2 ∙ ap number_of word ∙ k.2)
+    same_some _ _ (sym h.2 ∙ ap number_of word ∙ k.2)
 
 pub accepted : (o : Result Circuit CircuitError) (text : Text) (read : List Text) → read ≡ lines text → (list_all is_allowed text && no_comment text) ≡ true → IfOk o (λ c. ReadsLines read c) → IfOk o (λ c. Reads text c × IsReadSoFar text c)
 accepted (Ok c) text read same tests reads = lines_read text c tests (subst (λ ls. ReadsLines ls c) same reads)
@@ -145,7 +143,7 @@ same_lines all first second body more h k = record { number_is = cc; body_is = c
 pub read_one : ReadsOneCircuit
 read_one text c d reads other =
     let same = same_lines (content (lines text)) reads.number other.number reads.body other.body reads.read other.read in
-    let parties : c.parties ≡ d.parties = same_number (sym reads.parties ∙ ap number_of same.number_is ∙ other.parties) in
+    let parties : c.parties ≡ d.parties = same_some _ _ (sym reads.parties ∙ ap number_of same.number_is ∙ other.parties) in
     let said : Say c.parties [] reads.body d.statements = subst (λ (n : ℕ). Say n [] reads.body d.statements) (sym parties) (subst (λ (body : List (List Text)). Say d.parties [] body d.statements) (sym same.body_is) other.statements) in
     let statements = say_unique (no_statements c.parties) reads.body c.statements d.statements (no_statements-circuit c.parties reads.some_parties reads.most_parties) reads.statements said (let few = reads.few in omega arith) in
     ap₂ (λ (n : ℕ) (ss : List Statement). let circuit : Circuit = record { parties = n; statements = ss } in circuit) parties statements

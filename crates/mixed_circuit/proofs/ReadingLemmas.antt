@@ -6,7 +6,6 @@ use Rattle.std.specs.Str.{bytes_eq}
 use Rattle.std.proofs.lemmas.Bool.{false≢true}
 use Rattle.std.proofs.lemmas.Slice.Eq.{bytes_eq-Decides}
 use Rattle.std.proofs.Math.Seq.{take-length, drop-cons}
-use Rattle.mot_base.specs.declared.Party.{Party}
 use Rattle.share_types.specs.declared.WireType.TheVariants.{A}
 use Rattle.mixed_circuit.specs.declared.circuit.Form.{Form}
 use Rattle.mixed_circuit.specs.declared.circuit.Form.TheVariants.{InputA, AddA, SubA, MulA, Output}
@@ -20,9 +19,10 @@ use Rattle.mixed_circuit.specs.declared.read.CircuitError.{CircuitError}
 use Rattle.share_types.specs.declared.WireType.{WireType}
 use Rattle.mixed_circuit.specs.Word.{is_name, number_of}
 use Rattle.mixed_circuit.specs.Circuit.{Circuit, Statement, IsCircuit, Follows, wire_of, wire_at, place_of, with_statement}
-use Rattle.mixed_circuit.specs.Grammar.{Spell, Spells, Says, spelling, receiver_piece, content, some_words}
+use Rattle.mixed_circuit.specs.Grammar.{Spell, Says, spelling, receiver_piece, content, some_words}
 use Rattle.mixed_circuit.specs.SoFar.{is_told_to_all, no_hexadecimal}
 use Rattle.mixed_circuit.specs.Reading.{SaysValue, SaysInput, SaysPair, SaysAssigned, SaysOutput, SaysSoFar, AddsLine, Adds, operation_word}
+use Rattle.mixed_circuit.proofs.ListLemmas.{same_some}
 use Rattle.mixed_circuit.proofs.CircuitLemmas.{place_of-name, place_of-named}
 
 pub if_none : {X : Type 0} (o : Option X) {P : Type 0} → P → IfNone o P
@@ -240,9 +240,6 @@ assigned_is c first second rest (Output x to) e h = cc
 pub said_assigned : (c : Circuit) (ws : List (Bor Text)) (form : Form) → 2 ≤ length ws → second_word ws ≡ codes "=" → SaysAssigned c (first_word ws) (third_words ws) form → SaysSoFar c (map (λ w. w.now) ws) (record { name = first_word ws; wire = Some A; form = form })
 said_assigned c ws form two e h = subst (λ line. SaysSoFar c line (record { name = first_word ws; wire = Some A; form = form })) (sym (words-two ws two)) (assigned_is c (first_word ws) (second_word ws) (third_words ws) form e h)
 
-pub same_number : {m n : ℕ} → Some m ≡ Some n → m ≡ n
-same_number e = cc
-
 all_no_number : {P : Type 0} (n : ℕ) → number_of (codes "all") ≡ Some n → P
 all_no_number n e = cc
 
@@ -250,7 +247,7 @@ all_no_number n e = cc
 input_unique : (c : Circuit) (rest : List Text) (f g : Form) → SaysInput c rest f → SaysInput c rest g → f ≡ g
 input_unique c rest f g h k =
     let first : h.0 ≡ k.0 = cc in
-    let party : h.1 ≡ k.1 = same_number (sym h.3 ∙ ap number_of first ∙ k.3) in
+    let party : h.1 ≡ k.1 = same_some _ _ (sym h.3 ∙ ap number_of first ∙ k.3) in
     h.5 ∙ ap (λ (n : ℕ). InputA (record { 0 = n })) party ∙ sym k.5
 
 pub record SamePair (x y v w : ℕ) : Type 0 where
@@ -261,7 +258,7 @@ pair_unique : (c : Circuit) (rest : List Text) (x y v w : ℕ) → SaysPair c re
 pair_unique c rest x y v w h k =
     let first : h.0 ≡ k.0 = cc in
     let second : h.1 ≡ k.1 = cc in
-    record { first = same_number (sym h.3 ∙ ap (place_of c.statements) first ∙ k.3); second = same_number (sym h.4 ∙ ap (place_of c.statements) second ∙ k.4) }
+    record { first = same_some _ _ (sym h.3 ∙ ap (place_of c.statements) first ∙ k.3); second = same_some _ _ (sym h.4 ∙ ap (place_of c.statements) second ∙ k.4) }
 
 behind_unique : (c : Circuit) (rest : List Text) (operation : Operation) (f g : Form) → SaysBehind c rest operation f → SaysBehind c rest operation g → f ≡ g
 behind_unique c rest Input f g h k = input_unique c rest f g h k
@@ -284,14 +281,14 @@ receiver_same : (ss : List Statement) (word : Text) (more : List Text) (to from 
 receiver_same ss word more All All h k = refl
 receiver_same ss word more All (One party) h k = all_no_number party.0 (sym (ap number_of h.0) ∙ k.0)
 receiver_same ss word more (One party) All h k = all_no_number party.0 (sym (ap number_of k.0) ∙ h.0)
-receiver_same ss word more (One party) (One other) h k = ap (λ (n : ℕ). One (record { 0 = n })) (same_number (sym h.0 ∙ k.0))
+receiver_same ss word more (One party) (One other) h k = ap (λ (n : ℕ). One (record { 0 = n })) (same_some _ _ (sym h.0 ∙ k.0))
 
 receiver_unique : (ss : List Statement) (words : List Text) (to from : Receiver) → Spell ss (receiver_piece to ∷ []) words → Spell ss (receiver_piece from ∷ []) words → to ≡ from
 receiver_unique ss [] to from h k = absurd h
 receiver_unique ss (word ∷ more) to from h k = receiver_same ss word more to from h k
 
 told_unique : (c : Circuit) (word operand : Text) (receiver : List Text) (f g : Form) → SaysTold c word operand receiver f → SaysTold c word operand receiver g → f ≡ g
-told_unique c word operand receiver f g h k = h.2 ∙ ap₂ (λ (x : ℕ) (to : Receiver). Output x to) (same_number (sym h.4 ∙ k.4)) (receiver_unique c.statements receiver h.1 k.1 h.5 k.5) ∙ sym k.2
+told_unique c word operand receiver f g h k = h.2 ∙ ap₂ (λ (x : ℕ) (to : Receiver). Output x to) (same_some _ _ (sym h.4 ∙ k.4)) (receiver_unique c.statements receiver h.1 k.1 h.5 k.5) ∙ sym k.2
 
 abbrev pub statement : Text → Option WireType → Form → Statement
 statement name wire form = record { name = name; wire = wire; form = form }

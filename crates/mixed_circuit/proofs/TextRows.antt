@@ -1,7 +1,7 @@
 -- Small texts, whose lines, words, names and numbers are computed by the definitions.
-use Rattle.std.proofs.Common.{ℕ, ◌≡◌, ◌++◌, Bool, true, false, List, [], ◌∷◌, Some, None, refl}
+use Rattle.std.proofs.Common.{◌≡◌, ◌++◌, true, false, [], ◌∷◌, Some, None, refl}
 use Rattle.std.specs.Prelude.{codes, replicate}
-use Rattle.mixed_circuit.specs.Text.{Text, lines, words, line_words}
+use Rattle.mixed_circuit.specs.Text.{lines, words, line_words}
 use Rattle.mixed_circuit.specs.Word.{is_name, number_of}
 use Rattle.mixed_circuit.specs.Grammar.{content}
 

@@ -1,5 +1,5 @@
 -- The language of circuits: which words spell a statement, and which texts read as a circuit.
-use Rattle.std.specs.Prelude.{ℕ, ◌≡◌, ◌≤◌, Bool, true, false, List, [], ◌∷◌, ◌++◌, length, filter, map, Option, Some, None, MatchOption, codes, ⊤}
+use Rattle.std.specs.Prelude.{ℕ, ◌≡◌, ◌≤◌, Bool, true, false, List, [], ◌∷◌, ◌++◌, length, filter, map, Some, MatchOption, codes, ⊤}
 use Rattle.std.specs.List.{list_all}
 use Rattle.mixed_circuit.specs.declared.circuit.Form.{Form}
 use Rattle.mixed_circuit.specs.declared.circuit.Form.TheVariants.{InputA, AddA, SubA, MulA, Output}

@@ -1,4 +1,4 @@
-use Rattle.std.proofs.Common.{ℕ, ◌≡◌, ◌∙◌, ap, arith, length, map}
+use Rattle.std.proofs.Common.{arith}
 use Rattle.std.proofs.lemmas.List.{length-map}
 use Rattle.mixed_circuit.proofs.ReadingLemmas.{no_assigned, no_output, said_words, said_output}
 use Rattle.mixed_circuit.proofs.read.statement_of.Goals as goal
