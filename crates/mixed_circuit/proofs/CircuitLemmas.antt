@@ -1,5 +1,5 @@
 -- What one more statement changes in a circuit, and where its names stand.
-use Rattle.std.proofs.Common.{ℕ, ◌≡◌, ◌≢◌, ◌<◌, ◌≤◌, ◌+◌, Bool, true, false, ◌&&◌, ◌||◌, List, [], ◌∷◌, ◌++◌, length, take, Some, None, Option, suc, zero, add-one, refl, sym, ◌∙◌, ap, subst, cond, arith, rules, ◌⊎◌, inl, inr}
+use Rattle.std.proofs.Common.{ℕ, ◌≡◌, ◌<◌, ◌+◌, Bool, true, false, ◌&&◌, ◌||◌, List, [], ◌∷◌, ◌++◌, length, take, Some, None, Option, suc, add-one, refl, sym, ◌∙◌, ap, subst, cond, arith, ◌⊎◌, inl, inr}
 use Rattle.std.specs.Prelude.{slice_get, option_map, option_and_then, is_some, MatchOption}
 use Rattle.share_types.specs.declared.WireType.{WireType}
 use Rattle.share_types.specs.declared.WireType.TheVariants.{A}
@@ -7,7 +7,7 @@ use Rattle.mixed_circuit.specs.declared.circuit.Form.{Form}
 use Rattle.mixed_circuit.specs.declared.circuit.Form.TheVariants.{InputA, AddA, SubA, MulA, Output}
 use Rattle.std.specs.Option.{option_or}
 use Rattle.std.specs.Str.{bytes_eq}
-use Rattle.std.proofs.lemmas.Option.{slice_get_within, slice_get_past}
+use Rattle.std.proofs.lemmas.Option.{slice_get_within}
 use Rattle.std.proofs.lemmas.List.{length-append, length-take, take-append-le}
 use Rattle.std.proofs.Math.Seq.{take-append_seam}
 use Rattle.std.specs.Str.{IsAscii}
@@ -17,31 +17,16 @@ use Rattle.std.proofs.lemmas.Slice.Eq.{bytes_eq-Decides}
 use Rattle.std.proofs.lemmas.Bool.Decides.{nat_tests}
 use Rattle.std.proofs.lemmas.Str.Ascii.{IsAscii-nil, IsAscii-cons}
 use Rattle.mixed_circuit.proofs.WordLemmas.{both_true}
+use Rattle.mixed_circuit.proofs.ListLemmas.{pushed}
 use Rattle.mixed_circuit.specs.Text.{Text}
 use Rattle.mixed_circuit.specs.Word.{is_name, is_letter}
-use Rattle.mixed_circuit.specs.Circuit.{Statement, Circuit, IsCircuit, Follows, IsAllowed, IsNamed, AreOperandsBefore, wire_at, place_of, with_statement, max_statements}
+use Rattle.mixed_circuit.specs.Circuit.{Statement, Circuit, IsCircuit, Follows, IsAllowed, AreOperandsBefore, wire_at, place_of, with_statement, max_statements}
 
 abbrev pub fields : ℕ → List Statement → Circuit
 fields parties statements = record { parties = parties; statements = statements }
 
-pub slice_get-end : {X : Type 0} (xs : List X) (x : X) → slice_get (xs ++ x ∷ []) (length xs) ≡ Some x
-slice_get-end [] x = refl
-slice_get-end (y ∷ xs) x = slice_get-end xs x
-
-pub slice_get-before : {X : Type 0} (xs ys : List X) (i : ℕ) → i < length xs → slice_get (xs ++ ys) i ≡ slice_get xs i
-slice_get-before [] ys i h = absurd (omega arith)
-slice_get-before (x ∷ xs) ys zero h = refl
-slice_get-before (x ∷ xs) ys (suc i) h = slice_get-before xs ys i (omega arith)
-
--- each place of a list with one more element is one of the list, or its end
-pub slice_get-push : {X : Type 0} (xs : List X) (x y : X) (i : ℕ) → slice_get (xs ++ x ∷ []) i ≡ Some y → ((i < length xs) × (slice_get xs i ≡ Some y)) ⊎ ((i ≡ length xs) × (x ≡ y))
-slice_get-push [] x y zero h = inr (refl, cc)
-slice_get-push [] x y (suc i) h = cc
-slice_get-push (z ∷ xs) x y zero h = inl (omega arith, h)
-slice_get-push (z ∷ xs) x y (suc i) h = elim (slice_get-push xs x y i h) [ inl p ↦ inl (let lt : i < length xs = p.0 in omega arith, p.1) | inr p ↦ inr (let e : i ≡ length xs = p.0 in omega arith, p.1) ]
-
-follows_more : (c : Circuit) (s t : Statement) (at : ℕ) → IsCircuit c → Follows c.parties c.statements s → ((at < length c.statements) × (slice_get c.statements at ≡ Some t)) ⊎ ((at ≡ length c.statements) × (s ≡ t)) → Follows c.parties (take at (c.statements ++ s ∷ [])) t
-follows_more c s t at circuit follows (inl p) = let P : List Statement → Type 0 = λ ss. Follows c.parties ss t in subst P (sym (take-append-le at c.statements (s ∷ []) (let lt : at < length c.statements = p.0 in omega arith))) (circuit.each at t p.1)
+follows_more : (c : Circuit) (s t : Statement) (at : ℕ) → IsCircuit c → Follows c.parties c.statements s → (slice_get c.statements at ≡ Some t) ⊎ ((at ≡ length c.statements) × (s ≡ t)) → Follows c.parties (take at (c.statements ++ s ∷ [])) t
+follows_more c s t at circuit follows (inl p) = let P : List Statement → Type 0 = λ ss. Follows c.parties ss t in subst P (sym (take-append-le at c.statements (s ∷ []) (let within = slice_get_within c.statements at t p in omega arith))) (circuit.each at t p)
 follows_more c s t at circuit follows (inr p) =
     let Q : Statement → Type 0 = λ u. Follows c.parties c.statements u in
     let P : List Statement → Type 0 = λ ss. Follows c.parties ss t in
@@ -52,7 +37,7 @@ IsCircuit-push c s circuit few follows = record {
   some_parties = circuit.some_parties;
   most_parties = circuit.most_parties;
   few = simp length-append (omega arith);
-  each = λ at t h. follows_more c s t at circuit follows (slice_get-push c.statements s t at h);
+  each = λ at t h. follows_more c s t at circuit follows (pushed c.statements s t at h);
 }
 
 letter_ascii : (b : ℕ) → is_letter b ≡ true → b < 128

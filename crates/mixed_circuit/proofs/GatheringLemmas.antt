@@ -1,10 +1,10 @@
 -- Why the reader of a values text answers as it does.
-use Rattle.std.proofs.Common.{ℕ, ◌≡◌, ◌≢◌, ◌<◌, ◌≤◌, ◌+◌, ◌/◌, ◌^◌, Bool, true, false, List, [], ◌∷◌, ◌++◌, length, take, drop, map, Some, None, Option, suc, zero, refl, sym, ◌∙◌, ap, subst, cond, arith, inl, inr, Bor}
-use Rattle.std.specs.Prelude.{slice_get, filter, get_or, option_map, nat_lt, nat_le, nat_eq, ◌==◌, replicate}
-use Rattle.std.specs.List.{list_all, list_any, position}
+use Rattle.std.proofs.Common.{ℕ, ◌≡◌, ◌≢◌, ◌<◌, ◌≤◌, ◌+◌, ◌/◌, ◌^◌, Bool, true, false, ◌&&◌, List, [], ◌∷◌, ◌++◌, length, take, drop, map, Some, None, Option, suc, zero, refl, sym, ◌∙◌, ap, subst, cond, arith, inl, inr, Bor}
+use Rattle.std.specs.Prelude.{slice_get, filter, get_or, option_map, nat_lt, nat_le, nat_eq, replicate}
+use Rattle.std.specs.List.{list_all}
 use Rattle.std.proofs.lemmas.Option.{slice_get_within, slice_get-get_or, slice_get-map}
-use Rattle.std.proofs.lemmas.Bool.{cases_lt, lt-ltb, le-ltb, eq-eqb, ne_eqb, le-leb, ltb-false, eqb-false}
-use Rattle.std.proofs.lemmas.List.{map-append, length-set, length-append, take_all, take-append-drop, length-take, append-nil, length-replicate}
+use Rattle.std.proofs.lemmas.Bool.{cases_lt, lt-ltb, le-ltb, eq-eqb, ne_eqb, le-leb, eqb-false}
+use Rattle.std.proofs.lemmas.List.{map-append, length-set, length-append, take-append-drop, length-take, append-nil, length-replicate}
 use Rattle.std.proofs.lemmas.List.Elements.{filter-append}
 use Rattle.std.proofs.lemmas.Nat.{le-div, pow_pos}
 use Rattle.std.proofs.Math.Nat.{mod-eq_of_lt, div-eq_of_lt}
@@ -13,11 +13,13 @@ use Rattle.std.proofs.Math.Seq.{take-append_seam}
 use Rattle.mixed_circuit.proofs.ListLemmas.{same_some, some_at, first_of_three, first_is, middle, in_front, pushed, take_next}
 use Rattle.mixed_circuit.proofs.BitsLemmas.{number-bits, length-bits}
 use Rattle.mixed_circuit.proofs.ValuesLemmas.{gathered_none, gathered_more}
-use Rattle.mixed_circuit.specs.Text.{Text, lines, line_words, is_allowed, without_comment}
+use Rattle.mixed_circuit.specs.Text.{Text, lines, line_words, is_allowed}
 use Rattle.mixed_circuit.specs.Grammar.{content, some_words}
 use Rattle.mixed_circuit.specs.Bits.{number, bits}
 use Rattle.mixed_circuit.specs.Table.{Input, AreNamedApart}
 use Rattle.mixed_circuit.specs.Values.{GivesNumber, GivesValue, ReadsValues}
+use Rattle.mixed_circuit.specs.SoFar.{no_comment}
+use Rattle.mixed_circuit.proofs.WordLemmas.{both_true}
 use Rattle.mixed_circuit.specs.Gathered.{IsGathered, Gathered, Adds, AddsNone, AreBitsOf}
 
 -- ---- a line without its comment
@@ -71,7 +73,7 @@ refused_line inputs text k line numbers values there some gathered none = λ rea
     let seen = content (take k (lines text)) in
     let place = content_at (lines text) k line there some in
     let gives = reads.given (length seen) (line_words line) place in
-    let taken = none.taken gives.at (number gives.value) gives.given (reads.plain.decimal (length seen) (line_words line) place) in
+    let taken = none.taken gives.at (number gives.value) gives.given (reads.so_far.decimal (length seen) (line_words line) place) in
     let has = gathered.each gives.at gives.given.input taken.0 gives.given.named taken.1 in
     let same = reads.apart.apart has.at (length seen) has.line (line_words line) (content_front (lines text) k has.at has.line has.there) place (has.named ∙ sym (first_is (line_words line) _ _ _ gives.given.words)) in
     let within = slice_get_within seen has.at has.line has.there in
@@ -110,15 +112,15 @@ gives_value inputs numbers values line are g =
     let P : ℕ → Type 0 = λ n. GivesNumber inputs line g.at n in
     record { at = g.at; value = bits input.width g.n; valued = b.valued ∙ ap (λ n. Some (bits input.width n)) same; given = subst P (sym value) g.given }
 
-pub reads_values : (inputs : List Input) (text : Text) (numbers : List (Option ℕ)) (values : List (List Bool)) → list_all is_allowed text ≡ true → list_any (λ b. b == 35) text ≡ false → Gathered inputs (content (lines text)) numbers → AreBitsOf inputs numbers values → ReadsValues inputs text values
-reads_values inputs text numbers values allowed bare gathered are = record {
-  bytes = allowed;
+pub reads_values : (inputs : List Input) (text : Text) (numbers : List (Option ℕ)) (values : List (List Bool)) → (list_all is_allowed text && no_comment text) ≡ true → Gathered inputs (content (lines text)) numbers → AreBitsOf inputs numbers values → ReadsValues inputs text values
+reads_values inputs text numbers values tests gathered are = record {
+  bytes = (both_true _ _ tests).0;
   count = are.count;
   widths = λ at input value here valued. let b = has_bits inputs numbers values at input are here in ap length (same_some _ _ (sym valued ∙ b.valued)) ∙ length-bits input.width b.n;
   given = λ at line h. gives_value inputs numbers values line are (gathered.given at line h);
   each = λ at input here. let b = has_bits inputs numbers values at input are here in gathered.each at input b.n here b.has;
   apart = gathered.apart;
-  plain = record { bare = bare; decimal = λ at line h. (gathered.given at line h).decimal };
+  so_far = record { comments = (both_true _ _ tests).1; decimal = λ at line h. (gathered.given at line h).decimal };
 }
 
 -- ---- the values of the inputs, one after another

@@ -1,13 +1,13 @@
 -- The inputs of a circuit, one statement after another, and their names.
-use Rattle.std.proofs.Common.{ℕ, ◌≡◌, ◌≢◌, ◌<◌, ◌≤◌, ◌+◌, ◌&&◌, Bool, true, false, List, [], ◌∷◌, ◌++◌, length, take, drop, get_or, Option, Some, None, zero, suc, add-one, sym, refl, ◌∙◌, ap, subst, cond, arith, append_assoc}
+use Rattle.std.proofs.Common.{ℕ, ◌≡◌, ◌<◌, ◌≤◌, ◌+◌, ◌&&◌, Bool, true, false, List, [], ◌∷◌, ◌++◌, length, take, drop, Option, Some, None, zero, suc, add-one, sym, refl, ◌∙◌, ap, subst, cond, arith, append_assoc}
 use Rattle.std.specs.Prelude.{slice_get, IfSome, is_some, option_map, MatchOption}
 use Rattle.std.specs.Str.{bytes_eq}
 use Rattle.std.proofs.lemmas.Option.{slice_get_within, get_or_from_slice_get}
-use Rattle.std.proofs.lemmas.Bool.{false≢true}
 use Rattle.std.proofs.lemmas.Slice.Eq.{bytes_eq-Decides}
 use Rattle.std.proofs.lemmas.List.{drop_all, append-nil}
 use Rattle.std.proofs.Math.Seq.{drop-cons}
-use Rattle.mixed_circuit.specs.Text.{Text}
+use Rattle.mixed_circuit.proofs.WordLemmas.{both}
+use Rattle.mixed_circuit.proofs.ListLemmas.{same_some, some_at}
 use Rattle.mot_base.specs.declared.Party.{Party}
 use Rattle.share_types.specs.declared.WireType.{WireType}
 use Rattle.mixed_circuit.specs.declared.circuit.Form.{Form}
@@ -24,17 +24,12 @@ pub record AreListedTo (all : List Statement) (table : List Input) (at : ℕ) : 
 rest-of : {X : Type 0} (xs : List X) (i : ℕ) (x : X) → slice_get xs i ≡ Some x → drop i xs ≡ x ∷ drop (i + 1) xs
 rest-of xs i x h = let within : i < length xs = slice_get_within xs i x h in rw (add-one, drop-cons xs i x) (ap (λ y. y ∷ drop (suc i) xs) (get_or_from_slice_get xs i x x h))
 
-none_within : (all : List Statement) (at : ℕ) → slice_get all at ≡ None → at < length all → ⊥
-none_within [] at e within = omega arith
-none_within (s ∷ all) zero e within = cc
-none_within (s ∷ all) (suc at) e within = none_within all at e (omega arith)
-
 pub listed_next : (all : List Statement) (table after : List Input) (at : ℕ) (o : Option Statement) → slice_get all at ≡ o → at < length all
     → IfSome o (λ s. after ≡ table ++ form_inputs s.name s.form)
     → length after ≤ length table + 1
     → AreListedTo all table at
     → AreListedTo all after (at + 1)
-listed_next all table after at None e within added one listed = absurd (none_within all at e within)
+listed_next all table after at None e within added one listed = let there = some_at all at within in let contrary = sym e ∙ there.1 in cc
 listed_next all table after at (Some s) e within added one listed = record {
   inputs = ap (λ (t : List Input). t ++ inputs_of (drop (at + 1) all)) added ∙ append_assoc table _ _
       ∙ ap (λ (ss : List Statement). table ++ inputs_of ss) (sym (rest-of all at s e)) ∙ listed.inputs;
@@ -42,9 +37,6 @@ listed_next all table after at (Some s) e within added one listed = record {
 }
 
 -- Names.
-
-some_same : (x y : Input) → Some x ≡ Some y → x ≡ y
-some_same x y e = cc
 
 later_none : (b : Bool) (o : Option ℕ) → cond b (Some 0) (option_map (λ at. at + 1) o) ≡ None → o ≡ None
 later_none true o h = cc
@@ -54,9 +46,6 @@ later_none false (Some at) h = cc
 found_here : (b : Bool) (o : Option ℕ) → b ≡ true → cond b (Some 0) o ≡ None → ⊥
 found_here true o e h = cc
 found_here false o e h = cc
-
-both : (a b : Bool) → a ≡ true → b ≡ true → (a && b) ≡ true
-both a b e f = ap (λ x. x && b) e ∙ f
 
 -- a value that stands there is found by its name
 place_of-found : (before : List Statement) (p : ℕ) (s : Statement) → slice_get before p ≡ Some s → is_some s.wire ≡ true → place_of before s.name ≡ None → ⊥
@@ -135,8 +124,8 @@ other_name s ss names value j y there same =
 input_apart : (s : Statement) (party : Party) (inputs : List Input) → ((j : ℕ) (y : Input) → slice_get inputs j ≡ Some y → s.name ≡ y.name → ⊥) → AreNamedApart inputs
     → (i j : ℕ) (x y : Input) → slice_get (record { name = s.name; party = party; width = 64 } ∷ inputs) i ≡ Some x → slice_get (record { name = s.name; party = party; width = 64 } ∷ inputs) j ≡ Some y → x.name ≡ y.name → i ≡ j
 input_apart s party inputs other behind zero zero x y first second same = refl
-input_apart s party inputs other behind zero (suc j) x y first second same = absurd (other j y second (ap (λ (z : Input). z.name) (some_same _ x first) ∙ same))
-input_apart s party inputs other behind (suc i) zero x y first second same = absurd (other i x first (ap (λ (z : Input). z.name) (some_same _ y second) ∙ sym same))
+input_apart s party inputs other behind zero (suc j) x y first second same = absurd (other j y second (ap (λ (z : Input). z.name) (same_some _ x first) ∙ same))
+input_apart s party inputs other behind (suc i) zero x y first second same = absurd (other i x first (ap (λ (z : Input). z.name) (same_some _ y second) ∙ sym same))
 input_apart s party inputs other behind (suc i) (suc j) x y first second same = ap suc (behind.apart i j x y first second same)
 
 apart_behind : (s : Statement) (ss : List Statement) (form : Form) → s.form ≡ form → HaveNamesApart (s ∷ ss) → AreNamedApart (inputs_of ss) → AreNamedApart (form_inputs s.name form ++ inputs_of ss)

@@ -9,3 +9,4 @@ mod ListLemmas
 pub mod ValuesLemmas
 mod LineLemmas
 mod GatheringLemmas
+mod TextRows

@@ -11,7 +11,8 @@ use Rattle.mixed_circuit.proofs.ValuesLemmas.{names_place}
 use Rattle.mixed_circuit.specs.Text.{Text}
 use Rattle.mixed_circuit.specs.Word.{begins_hexadecimal, number_of}
 use Rattle.mixed_circuit.specs.Table.{Input, AreNamedApart}
-use Rattle.mixed_circuit.specs.Values.{GivesNumber, IsDecimal, literal_number}
+use Rattle.mixed_circuit.specs.Values.{GivesNumber, literal_number}
+use Rattle.mixed_circuit.specs.SoFar.{IsDecimal}
 use Rattle.mixed_circuit.specs.Gathered.{ArePlaces, HasName}
 
 pub place_within : (inputs : List Input) (place : Text → Option ℕ) (name : Text) (at : ℕ) → ArePlaces inputs place → place name ≡ Some at → at < length inputs

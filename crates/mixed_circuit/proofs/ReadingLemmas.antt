@@ -6,7 +6,6 @@ use Rattle.std.specs.Str.{bytes_eq}
 use Rattle.std.proofs.lemmas.Bool.{false≢true}
 use Rattle.std.proofs.lemmas.Slice.Eq.{bytes_eq-Decides}
 use Rattle.std.proofs.Math.Seq.{take-length, drop-cons}
-use Rattle.mot_base.specs.declared.Party.{Party}
 use Rattle.share_types.specs.declared.WireType.TheVariants.{A}
 use Rattle.mixed_circuit.specs.declared.circuit.Form.{Form}
 use Rattle.mixed_circuit.specs.declared.circuit.Form.TheVariants.{InputA, AddA, SubA, MulA, Output}
@@ -20,9 +19,10 @@ use Rattle.mixed_circuit.specs.declared.read.CircuitError.{CircuitError}
 use Rattle.share_types.specs.declared.WireType.{WireType}
 use Rattle.mixed_circuit.specs.Word.{is_name, number_of}
 use Rattle.mixed_circuit.specs.Circuit.{Circuit, Statement, IsCircuit, Follows, wire_of, wire_at, place_of, with_statement}
-use Rattle.mixed_circuit.specs.Grammar.{Spell, Spells, spelling, receiver_piece, content, some_words}
+use Rattle.mixed_circuit.specs.Grammar.{Spell, Says, spelling, receiver_piece, content, some_words}
 use Rattle.mixed_circuit.specs.SoFar.{is_told_to_all, no_hexadecimal}
 use Rattle.mixed_circuit.specs.Reading.{SaysValue, SaysInput, SaysPair, SaysAssigned, SaysOutput, SaysSoFar, AddsLine, Adds, operation_word}
+use Rattle.mixed_circuit.proofs.ListLemmas.{same_some}
 use Rattle.mixed_circuit.proofs.CircuitLemmas.{place_of-name, place_of-named}
 
 pub if_none : {X : Type 0} (o : Option X) {P : Type 0} → P → IfNone o P
@@ -152,29 +152,40 @@ assigned_value c first second rest s value spelt e spell follows =
     (new.0, new.1, (value, subst (λ line. Spell c.statements (spelling s.form) line) words spell, follows.allowed))
 
 -- where the second word is `=`, what is said is assigned to the first
-pub assigned_said : (c : Circuit) (first second : Text) (rest : List Text) (name : Text) (wire : Option WireType) (form : Form) → IsCircuit c → second ≡ codes "=" → SaysSoFar c (first ∷ second ∷ rest) (record { name = name; wire = wire; form = form }) → SaysAssigned c first rest form
-assigned_said c first second rest name wire (InputA party) circuit e h = assigned_value c first second rest (record { name = name; wire = wire; form = InputA party }) refl h.0.0.0 h.0.0.1 h.0.0.2 h.0.1
-assigned_said c first second rest name wire (AddA x y) circuit e h = assigned_value c first second rest (record { name = name; wire = wire; form = AddA x y }) refl h.0.0.0 h.0.0.1 h.0.0.2 h.0.1
-assigned_said c first second rest name wire (SubA x y) circuit e h = assigned_value c first second rest (record { name = name; wire = wire; form = SubA x y }) refl h.0.0.0 h.0.0.1 h.0.0.2 h.0.1
-assigned_said c first second rest name wire (MulA x y) circuit e h = assigned_value c first second rest (record { name = name; wire = wire; form = MulA x y }) refl h.0.0.0 h.0.0.1 h.0.0.2 h.0.1
-assigned_said c first second rest name wire (Output x to) circuit e h = absurd (false≢true (subst (λ (text : Text). is_name text ≡ true) e (place_of-name c second x circuit h.0.0.1.0)))
+pub assigned_said : (c : Circuit) (first second : Text) (rest : List Text) (name : Text) (wire : Option WireType) (form : Form) → IsCircuit c → second ≡ codes "=" → Says c.parties c.statements (first ∷ second ∷ rest) (record { name = name; wire = wire; form = form }) → SaysAssigned c first rest form
+assigned_said c first second rest name wire (InputA party) circuit e h = assigned_value c first second rest (record { name = name; wire = wire; form = InputA party }) refl h.0.0 h.0.1 h.0.2 h.1
+assigned_said c first second rest name wire (AddA x y) circuit e h = assigned_value c first second rest (record { name = name; wire = wire; form = AddA x y }) refl h.0.0 h.0.1 h.0.2 h.1
+assigned_said c first second rest name wire (SubA x y) circuit e h = assigned_value c first second rest (record { name = name; wire = wire; form = SubA x y }) refl h.0.0 h.0.1 h.0.2 h.1
+assigned_said c first second rest name wire (MulA x y) circuit e h = assigned_value c first second rest (record { name = name; wire = wire; form = MulA x y }) refl h.0.0 h.0.1 h.0.2 h.1
+assigned_said c first second rest name wire (Output x to) circuit e h = absurd (false≢true (subst (λ (text : Text). is_name text ≡ true) e (place_of-name c second x circuit h.0.1.0)))
 
 second_is : (first second : Text) (rest : List Text) (name : Text) (spelt : List Text) → first ∷ second ∷ rest ≡ name ∷ codes "=" ∷ spelt → second ≡ codes "="
 second_is first second rest name spelt e = cc
 
+-- an output is said to a receiver
+abbrev pub SaysTold : Circuit → Text → Text → List Text → Form → Type 0
+SaysTold c word operand receiver form = (x : ℕ) × (to : Receiver) × (form ≡ Output x to) × (word ≡ codes "output") × (place_of c.statements operand ≡ Some x) × Spell c.statements (receiver_piece to ∷ []) receiver
+
+-- where it is not, an output is said
+told_said : (c : Circuit) (first second : Text) (rest : List Text) (name : Text) (wire : Option WireType) (form : Form) → (second ≡ codes "=" → ⊥) → Says c.parties c.statements (first ∷ second ∷ rest) (record { name = name; wire = wire; form = form }) → SaysTold c first second rest form
+told_said c first second rest name wire (InputA party) other h = absurd (other (second_is first second rest name _ h.0.1))
+told_said c first second rest name wire (AddA x y) other h = absurd (other (second_is first second rest name _ h.0.1))
+told_said c first second rest name wire (SubA x y) other h = absurd (other (second_is first second rest name _ h.0.1))
+told_said c first second rest name wire (MulA x y) other h = absurd (other (second_is first second rest name _ h.0.1))
+told_said c first second rest name wire (Output x to) other h = (x, to, refl, h.0.0, h.0.1.0, h.0.1.1)
+
+-- and to all, where it is told to all
 output_all : (c : Circuit) (first second : Text) (rest : List Text) (x : ℕ) (to : Receiver) → is_told_to_all (Output x to) ≡ true → first ≡ codes "output" → place_of c.statements second ≡ Some x → Spell c.statements (receiver_piece to ∷ []) rest → SaysOutput c first second rest (Output x to)
 output_all c first second rest x (One party) told word operand receiver = absurd (false≢true told)
 output_all c first second [] x All told word operand receiver = absurd receiver
 output_all c first second (r ∷ []) x All told word operand receiver = (word, ap (λ w. w ∷ []) receiver.0, x, operand, refl)
 output_all c first second (r ∷ q ∷ more) x All told word operand receiver = absurd receiver.1
 
--- where it is not, an output is said
 pub output_said : (c : Circuit) (first second : Text) (rest : List Text) (name : Text) (wire : Option WireType) (form : Form) → (second ≡ codes "=" → ⊥) → SaysSoFar c (first ∷ second ∷ rest) (record { name = name; wire = wire; form = form }) → SaysOutput c first second rest form
-output_said c first second rest name wire (InputA party) other h = absurd (other (second_is first second rest name _ h.0.0.1))
-output_said c first second rest name wire (AddA x y) other h = absurd (other (second_is first second rest name _ h.0.0.1))
-output_said c first second rest name wire (SubA x y) other h = absurd (other (second_is first second rest name _ h.0.0.1))
-output_said c first second rest name wire (MulA x y) other h = absurd (other (second_is first second rest name _ h.0.0.1))
-output_said c first second rest name wire (Output x to) other h = output_all c first second rest x to h.1 h.0.0.0 h.0.0.1.0 h.0.0.1.1
+output_said c first second rest name wire form other h =
+    let said = told_said c first second rest name wire form other h.0 in
+    let all = output_all c first second rest said.0 said.1 (ap is_told_to_all (sym said.2) ∙ h.1) said.3 said.4 said.5 in
+    subst (λ (f : Form). SaysOutput c first second rest f) (sym said.2) all
 
 -- no statement is said by these words
 abbrev pub SayNothing : Circuit → List (Bor Text) → Type 0
@@ -185,7 +196,7 @@ two_said c ws s two said = subst (λ line. SaysSoFar c line s) (words-two ws two
 
 pub no_assigned : (o : Option Said) (c : Circuit) (ws : List (Bor Text)) → IsCircuit c → 2 ≤ length ws → second_word ws ≡ codes "=" → ((form : Form) → SaysAssigned c (first_word ws) (third_words ws) form → ⊥) → IfNone o (SayNothing c ws)
 no_assigned o c ws circuit two e none =
-    let no : SayNothing c ws = λ s said. none s.form (assigned_said c (first_word ws) (second_word ws) (third_words ws) s.name s.wire s.form circuit e (two_said c ws s two said)) in
+    let no : SayNothing c ws = λ s said. none s.form (assigned_said c (first_word ws) (second_word ws) (third_words ws) s.name s.wire s.form circuit e (two_said c ws s two said).0) in
     if_none o no
 
 pub no_output : (o : Option Said) (c : Circuit) (ws : List (Bor Text)) → 2 ≤ length ws → (second_word ws ≡ codes "=" → ⊥) → ((form : Form) → SaysOutput c (first_word ws) (second_word ws) (third_words ws) form → ⊥) → IfNone o (SayNothing c ws)
@@ -194,13 +205,13 @@ no_output o c ws two other none =
     if_none o no
 
 -- fewer than two words say nothing
-pub said_words : (c : Circuit) (line : List Text) (name : Text) (wire : Option WireType) (form : Form) → SaysSoFar c line (record { name = name; wire = wire; form = form }) → 2 ≤ length line
-said_words c line name wire (InputA party) h = rw (ap length h.0.0.1) (omega arith)
-said_words c line name wire (AddA x y) h = rw (ap length h.0.0.1) (omega arith)
-said_words c line name wire (SubA x y) h = rw (ap length h.0.0.1) (omega arith)
-said_words c line name wire (MulA x y) h = rw (ap length h.0.0.1) (omega arith)
-said_words c [] name wire (Output x to) h = absurd h.0.0
-said_words c (a ∷ []) name wire (Output x to) h = absurd h.0.0.1
+pub said_words : (c : Circuit) (line : List Text) (name : Text) (wire : Option WireType) (form : Form) → Says c.parties c.statements line (record { name = name; wire = wire; form = form }) → 2 ≤ length line
+said_words c line name wire (InputA party) h = rw (ap length h.0.1) (omega arith)
+said_words c line name wire (AddA x y) h = rw (ap length h.0.1) (omega arith)
+said_words c line name wire (SubA x y) h = rw (ap length h.0.1) (omega arith)
+said_words c line name wire (MulA x y) h = rw (ap length h.0.1) (omega arith)
+said_words c [] name wire (Output x to) h = absurd h.0
+said_words c (a ∷ []) name wire (Output x to) h = absurd h.0.1
 said_words c (a ∷ b ∷ more) name wire (Output x to) h = omega arith
 
 some_wire : (ss : List Statement) (name : Text) (x : ℕ) → place_of ss name ≡ Some x → is_some (wire_at ss x) ≡ true
@@ -229,14 +240,14 @@ assigned_is c first second rest (Output x to) e h = cc
 pub said_assigned : (c : Circuit) (ws : List (Bor Text)) (form : Form) → 2 ≤ length ws → second_word ws ≡ codes "=" → SaysAssigned c (first_word ws) (third_words ws) form → SaysSoFar c (map (λ w. w.now) ws) (record { name = first_word ws; wire = Some A; form = form })
 said_assigned c ws form two e h = subst (λ line. SaysSoFar c line (record { name = first_word ws; wire = Some A; form = form })) (sym (words-two ws two)) (assigned_is c (first_word ws) (second_word ws) (third_words ws) form e h)
 
-pub same_number : {m n : ℕ} → Some m ≡ Some n → m ≡ n
-same_number e = cc
+all_no_number : {P : Type 0} (n : ℕ) → number_of (codes "all") ≡ Some n → P
+all_no_number n e = cc
 
 -- the same words say one form
 input_unique : (c : Circuit) (rest : List Text) (f g : Form) → SaysInput c rest f → SaysInput c rest g → f ≡ g
 input_unique c rest f g h k =
     let first : h.0 ≡ k.0 = cc in
-    let party : h.1 ≡ k.1 = same_number (sym h.3 ∙ ap number_of first ∙ k.3) in
+    let party : h.1 ≡ k.1 = same_some _ _ (sym h.3 ∙ ap number_of first ∙ k.3) in
     h.5 ∙ ap (λ (n : ℕ). InputA (record { 0 = n })) party ∙ sym k.5
 
 pub record SamePair (x y v w : ℕ) : Type 0 where
@@ -247,7 +258,7 @@ pair_unique : (c : Circuit) (rest : List Text) (x y v w : ℕ) → SaysPair c re
 pair_unique c rest x y v w h k =
     let first : h.0 ≡ k.0 = cc in
     let second : h.1 ≡ k.1 = cc in
-    record { first = same_number (sym h.3 ∙ ap (place_of c.statements) first ∙ k.3); second = same_number (sym h.4 ∙ ap (place_of c.statements) second ∙ k.4) }
+    record { first = same_some _ _ (sym h.3 ∙ ap (place_of c.statements) first ∙ k.3); second = same_some _ _ (sym h.4 ∙ ap (place_of c.statements) second ∙ k.4) }
 
 behind_unique : (c : Circuit) (rest : List Text) (operation : Operation) (f g : Form) → SaysBehind c rest operation f → SaysBehind c rest operation g → f ≡ g
 behind_unique c rest Input f g h k = input_unique c rest f g h k
@@ -265,8 +276,19 @@ value_unique c (word ∷ rest) f g h k =
     let said = operation_said c word rest f h in
     behind_unique c rest said.operation f g said.behind (behind c word rest said.operation g said.word_is k)
 
-output_unique : (c : Circuit) (word operand : Text) (receiver : List Text) (f g : Form) → SaysOutput c word operand receiver f → SaysOutput c word operand receiver g → f ≡ g
-output_unique c word operand receiver f g h k = h.4 ∙ ap (λ (x : ℕ). Output x All) (same_number (sym h.3 ∙ k.3)) ∙ sym k.4
+-- the word for all is no number
+receiver_same : (ss : List Statement) (word : Text) (more : List Text) (to from : Receiver) → Spell ss (receiver_piece to ∷ []) (word ∷ more) → Spell ss (receiver_piece from ∷ []) (word ∷ more) → to ≡ from
+receiver_same ss word more All All h k = refl
+receiver_same ss word more All (One party) h k = all_no_number party.0 (sym (ap number_of h.0) ∙ k.0)
+receiver_same ss word more (One party) All h k = all_no_number party.0 (sym (ap number_of k.0) ∙ h.0)
+receiver_same ss word more (One party) (One other) h k = ap (λ (n : ℕ). One (record { 0 = n })) (same_some _ _ (sym h.0 ∙ k.0))
+
+receiver_unique : (ss : List Statement) (words : List Text) (to from : Receiver) → Spell ss (receiver_piece to ∷ []) words → Spell ss (receiver_piece from ∷ []) words → to ≡ from
+receiver_unique ss [] to from h k = absurd h
+receiver_unique ss (word ∷ more) to from h k = receiver_same ss word more to from h k
+
+told_unique : (c : Circuit) (word operand : Text) (receiver : List Text) (f g : Form) → SaysTold c word operand receiver f → SaysTold c word operand receiver g → f ≡ g
+told_unique c word operand receiver f g h k = h.2 ∙ ap₂ (λ (x : ℕ) (to : Receiver). Output x to) (same_some _ _ (sym h.4 ∙ k.4)) (receiver_unique c.statements receiver h.1 k.1 h.5 k.5) ∙ sym k.2
 
 abbrev pub statement : Text → Option WireType → Form → Statement
 statement name wire form = record { name = name; wire = wire; form = form }
@@ -276,49 +298,49 @@ same_statement : (s t : Statement) → s.name ≡ t.name → s.wire ≡ t.wire �
 same_statement s t name wire form =
     ap (λ (n : Text). statement n s.wire s.form) name ∙ ap (λ (w : Option WireType). statement t.name w s.form) wire ∙ ap (λ (f : Form). statement t.name t.wire f) form
 
-assigned_name : (c : Circuit) (first second : Text) (rest : List Text) (name : Text) (wire : Option WireType) (form : Form) → IsCircuit c → second ≡ codes "=" → SaysSoFar c (first ∷ second ∷ rest) (record { name = name; wire = wire; form = form }) → name ≡ first
-assigned_name c first second rest name wire (InputA party) circuit e h = let is = h.0.0.1 in cc
-assigned_name c first second rest name wire (AddA x y) circuit e h = let is = h.0.0.1 in cc
-assigned_name c first second rest name wire (SubA x y) circuit e h = let is = h.0.0.1 in cc
-assigned_name c first second rest name wire (MulA x y) circuit e h = let is = h.0.0.1 in cc
-assigned_name c first second rest name wire (Output x to) circuit e h = absurd (false≢true (subst (λ (text : Text). is_name text ≡ true) e (place_of-name c second x circuit h.0.0.1.0)))
+assigned_name : (c : Circuit) (first second : Text) (rest : List Text) (name : Text) (wire : Option WireType) (form : Form) → IsCircuit c → second ≡ codes "=" → Says c.parties c.statements (first ∷ second ∷ rest) (record { name = name; wire = wire; form = form }) → name ≡ first
+assigned_name c first second rest name wire (InputA party) circuit e h = let is = h.0.1 in cc
+assigned_name c first second rest name wire (AddA x y) circuit e h = let is = h.0.1 in cc
+assigned_name c first second rest name wire (SubA x y) circuit e h = let is = h.0.1 in cc
+assigned_name c first second rest name wire (MulA x y) circuit e h = let is = h.0.1 in cc
+assigned_name c first second rest name wire (Output x to) circuit e h = absurd (false≢true (subst (λ (text : Text). is_name text ≡ true) e (place_of-name c second x circuit h.0.1.0)))
 
-output_name : (before : List Statement) (s : Statement) (x : ℕ) → s.form ≡ Output x All → s.wire ≡ wire_of s.form → MatchOption s.wire (s.name ≡ []) (λ _. (is_name s.name ≡ true) × (place_of before s.name ≡ None)) → (s.name ≡ []) × (s.wire ≡ None)
-output_name before s x e shared named =
+output_name : (before : List Statement) (s : Statement) (x : ℕ) (to : Receiver) → s.form ≡ Output x to → s.wire ≡ wire_of s.form → MatchOption s.wire (s.name ≡ []) (λ _. (is_name s.name ≡ true) × (place_of before s.name ≡ None)) → (s.name ≡ []) × (s.wire ≡ None)
+output_name before s x to e shared named =
     let none : s.wire ≡ None = shared ∙ ap wire_of e in
     let Named : Option WireType → Type 0 = λ w. MatchOption w (s.name ≡ []) (λ _. (is_name s.name ≡ true) × (place_of before s.name ≡ None)) in
     (subst Named none named, none)
 
-statement_unique : (c : Circuit) (first second : Text) (rest : List Text) (s t : Statement) (b : Bool) → bytes_eq second (codes "=") ≡ b → IsCircuit c → SaysSoFar c (first ∷ second ∷ rest) s → SaysSoFar c (first ∷ second ∷ rest) t → s ≡ t
+statement_unique : (c : Circuit) (first second : Text) (rest : List Text) (s t : Statement) (b : Bool) → bytes_eq second (codes "=") ≡ b → IsCircuit c → Says c.parties c.statements (first ∷ second ∷ rest) s → Says c.parties c.statements (first ∷ second ∷ rest) t → s ≡ t
 statement_unique c first second rest s t true b circuit h k =
     let e = (bytes_eq-Decides second (codes "=")).0 b in
     let assigned = assigned_said c first second rest s.name s.wire s.form circuit e h in
     let again = assigned_said c first second rest t.name t.wire t.form circuit e k in
     same_statement s t (assigned_name c first second rest s.name s.wire s.form circuit e h ∙ sym (assigned_name c first second rest t.name t.wire t.form circuit e k))
-    (h.0.1.shared ∙ assigned.2.0 ∙ sym (k.0.1.shared ∙ again.2.0))
+    (h.1.shared ∙ assigned.2.0 ∙ sym (k.1.shared ∙ again.2.0))
     (value_unique c rest s.form t.form assigned.2 again.2)
 statement_unique c first second rest s t false b circuit h k =
     let other : second ≡ codes "=" → ⊥ = λ e. false≢true (sym b ∙ (bytes_eq-Decides second (codes "=")).1 e) in
-    let said = output_said c first second rest s.name s.wire s.form other h in
-    let again = output_said c first second rest t.name t.wire t.form other k in
-    let one = output_name c.statements s said.2 said.4 h.0.1.shared h.0.1.named in
-    let two = output_name c.statements t again.2 again.4 k.0.1.shared k.0.1.named in
-    same_statement s t (one.0 ∙ sym two.0) (one.1 ∙ sym two.1) (output_unique c first second rest s.form t.form said again)
+    let said = told_said c first second rest s.name s.wire s.form other h in
+    let again = told_said c first second rest t.name t.wire t.form other k in
+    let one = output_name c.statements s said.0 said.1 said.2 h.1.shared h.1.named in
+    let two = output_name c.statements t again.0 again.1 again.2 k.1.shared k.1.named in
+    same_statement s t (one.0 ∙ sym two.0) (one.1 ∙ sym two.1) (told_unique c first second rest s.form t.form said again)
 
-pub said_unique : (c : Circuit) (line : List Text) (s t : Statement) → IsCircuit c → SaysSoFar c line s → SaysSoFar c line t → s ≡ t
-said_unique c [] s t circuit h k = absurd (no_words (said_words c [] s.name s.wire s.form h))
+pub says_unique : (c : Circuit) (line : List Text) (s t : Statement) → IsCircuit c → Says c.parties c.statements line s → Says c.parties c.statements line t → s ≡ t
+says_unique c [] s t circuit h k = absurd (no_words (said_words c [] s.name s.wire s.form h))
   where
     no_words : 2 ≤ length {A = Text} [] → ⊥
     no_words le = omega arith
-said_unique c (first ∷ []) s t circuit h k = absurd (one_word first (said_words c (first ∷ []) s.name s.wire s.form h))
+says_unique c (first ∷ []) s t circuit h k = absurd (one_word first (said_words c (first ∷ []) s.name s.wire s.form h))
   where
     one_word : (first : Text) → 2 ≤ length (first ∷ []) → ⊥
     one_word first le = omega arith
-said_unique c (first ∷ second ∷ rest) s t circuit h k = statement_unique c first second rest s t _ refl circuit h k
+says_unique c (first ∷ second ∷ rest) s t circuit h k = statement_unique c first second rest s t _ refl circuit h k
 
 -- and so add one
 pub adds_line_unique : (c : Circuit) (line : List Text) (a b : Circuit) → IsCircuit c → AddsLine c line a → AddsLine c line b → a ≡ b
-adds_line_unique c line a b circuit h k = h.3 ∙ ap (λ s. with_statement c s) (said_unique c line h.0 k.0 circuit h.1 k.1) ∙ sym k.3
+adds_line_unique c line a b circuit h k = h.3 ∙ ap (λ s. with_statement c s) (says_unique c line h.0 k.0 circuit h.1.0 k.1.0) ∙ sym k.3
 
 -- a blank line says nothing, and any other its words
 pub content_blank : (line : Text) (more : List Text) → line_words line ≡ [] → content (line ∷ more) ≡ content more

@@ -9,7 +9,8 @@ use Rattle.mixed_circuit.proofs.BitsLemmas.{same_from_number}
 use Rattle.mixed_circuit.specs.Text.{Text, lines}
 use Rattle.mixed_circuit.specs.Bits.{number}
 use Rattle.mixed_circuit.specs.Table.{Input, AreNamedApart}
-use Rattle.mixed_circuit.specs.Values.{GivesNumber, GivesValue, HasLine, IsDecimal, ReadsValues, ReadsOneList, literal_number}
+use Rattle.mixed_circuit.specs.Values.{GivesNumber, GivesValue, HasLine, ReadsValues, ReadsOneList, literal_number}
+use Rattle.mixed_circuit.specs.SoFar.{IsDecimal}
 use Rattle.mixed_circuit.specs.Gathered.{ArePlaces, IsGathered, Gathered, Adds, AddsNone}
 
 -- ---- one list of values

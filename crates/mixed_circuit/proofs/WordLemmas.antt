@@ -1,17 +1,20 @@
 -- What the words that spell numbers are to std's reading of them.
-use Rattle.std.proofs.Common.{ℕ, ◌≡◌, ◌≢◌, ◌<◌, ◌≤◌, ◌^◌, Bool, true, false, not, ◌&&◌, nat_lt, List, [], ◌∷◌, length, drop, get_or, Some, None, Ok, Err, Option, Result, refl, sym, ◌∙◌, ap, subst, cond, arith, rules}
+use Rattle.std.proofs.Common.{ℕ, ◌≡◌, ◌≢◌, ◌<◌, ◌≤◌, ◌^◌, Bool, true, false, not, ◌&&◌, [], ◌∷◌, length, get_or, Some, None, Ok, Err, Result, refl, sym, ◌∙◌, ap, subst, cond, arith}
 use Rattle.std.specs.Prelude.{is_ok, MatchResult}
 use Rattle.std.specs.Result.{result_ok, OkIff}
 use Rattle.std.specs.Char.{is_digit, digit_value}
 use Rattle.std.specs.List.{list_all}
 use Rattle.std.specs.Str.{IsAscii}
-use Rattle.std.specs.Str.Parse.{digits_value, AllDigits, ParsesUnsigned, IsNumeral, without_leading_plus}
+use Rattle.std.specs.Str.Parse.{digits_value, AllDigits, ParsesUnsigned, IsNumeral}
 use Rattle.std.proofs.lemmas.Bool.{lt-ltb, le-ltb}
 use Rattle.std.proofs.lemmas.Bool.Decides.{nat_tests}
 use Rattle.std.proofs.lemmas.Str.Ascii.{IsAscii-nil, IsAscii-cons}
 use Rattle.std.proofs.lemmas.Str.Parse.{without_leading_plus_none}
 use Rattle.mixed_circuit.specs.Text.{Text, is_empty}
 use Rattle.mixed_circuit.specs.Word.{are_digits, number_in}
+
+pub both : (a b : Bool) → a ≡ true → b ≡ true → (a && b) ≡ true
+both a b e f = ap (λ x. x && b) e ∙ f
 
 pub both_true : (a b : Bool) → (a && b) ≡ true → (a ≡ true) × (b ≡ true)
 both_true true b h = (refl, h)

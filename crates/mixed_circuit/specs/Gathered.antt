@@ -3,7 +3,8 @@ use Rattle.std.specs.Prelude.{ℕ, ◌≡◌, Bool, List, length, slice_get, sli
 use Rattle.mixed_circuit.specs.Text.{Text}
 use Rattle.mixed_circuit.specs.Table.{Input}
 use Rattle.mixed_circuit.specs.Bits.{bits}
-use Rattle.mixed_circuit.specs.Values.{GivesNumber, IsDecimal, HasLine, BeginApart}
+use Rattle.mixed_circuit.specs.Values.{GivesNumber, HasLine, BeginApart}
+use Rattle.mixed_circuit.specs.SoFar.{IsDecimal}
 
 -- the input at a place has a name
 pub record HasName (inputs : List Input) (at : ℕ) (name : Text) : Type 0 where

@@ -1,5 +1,5 @@
 -- The language of circuits: which words spell a statement, and which texts read as a circuit.
-use Rattle.std.specs.Prelude.{ℕ, ◌≡◌, ◌≤◌, Bool, true, false, List, [], ◌∷◌, ◌++◌, length, filter, map, Option, Some, None, MatchOption, codes, ⊤}
+use Rattle.std.specs.Prelude.{ℕ, ◌≡◌, ◌≤◌, Bool, true, false, List, [], ◌∷◌, ◌++◌, length, filter, map, Some, MatchOption, codes, ⊤}
 use Rattle.std.specs.List.{list_all}
 use Rattle.mixed_circuit.specs.declared.circuit.Form.{Form}
 use Rattle.mixed_circuit.specs.declared.circuit.Form.TheVariants.{InputA, AddA, SubA, MulA, Output}
@@ -76,3 +76,7 @@ pub record Reads (text : Text) (c : Circuit) : Type 0 where
   pub most_parties : c.parties ≤ 8
   pub few : length c.statements ≤ max_statements
   pub statements : Say c.parties [] body c.statements
+
+-- a text reads as at most one circuit
+abbrev pub ReadsOneCircuit : Type 0
+ReadsOneCircuit = (text : Text) (c d : Circuit) → Reads text c → Reads text d → c ≡ d

@@ -1,12 +1,12 @@
--- What of the language is read so far. All of this goes once the whole language is read.
-use Rattle.std.specs.Prelude.{ℕ, ◌≡◌, Bool, true, false, not, ◌==◌, ◌&&◌, List, [], ◌∷◌, ⊤}
+-- What of the languages of circuits and of values is read so far. All of this goes once they are read whole.
+use Rattle.std.specs.Prelude.{ℕ, ◌≡◌, Bool, true, false, not, ◌==◌, List, slice_get, Some}
 use Rattle.std.specs.List.{list_all}
 use Rattle.mixed_circuit.specs.declared.circuit.Form.{Form}
 use Rattle.mixed_circuit.specs.declared.circuit.Form.TheVariants.{InputA, AddA, SubA, MulA, Output}
 use Rattle.mixed_circuit.specs.declared.circuit.Receiver.TheVariants.{All, One}
 use Rattle.mixed_circuit.specs.Text.{Text, lines}
 use Rattle.mixed_circuit.specs.Word.{begins_hexadecimal}
-use Rattle.mixed_circuit.specs.Circuit.{Circuit, Statement}
+use Rattle.mixed_circuit.specs.Circuit.{Circuit}
 use Rattle.mixed_circuit.specs.Grammar.{content}
 
 -- no comment begins
@@ -32,3 +32,12 @@ pub record IsReadSoFar (text : Text) (c : Circuit) : Type 0 where
   pub comments : no_comment text ≡ true
   pub numbers : list_all no_hexadecimal (content (lines text)) ≡ true
   pub outputs : list_all (λ s. is_told_to_all s.form) c.statements ≡ true
+
+-- the literal of a line is not in hexadecimal
+pub record IsDecimal (line : List Text) : Type 0 where
+  pub decimal : (literal : Text) → slice_get line 2 ≡ Some literal → begins_hexadecimal literal ≡ false
+
+-- the texts of values that are read so far
+pub record AreValuesSoFar (text : Text) : Type 0 where
+  pub comments : no_comment text ≡ true
+  pub decimal : (at : ℕ) (line : List Text) → slice_get (content (lines text)) at ≡ Some line → IsDecimal line

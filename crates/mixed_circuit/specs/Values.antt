@@ -1,10 +1,11 @@
 -- The language of values: which texts read as the bits of a table's inputs.
-use Rattle.std.specs.Prelude.{ℕ, ◌≡◌, ◌==◌, ◌^◌, ◌<◌, Bool, true, false, List, [], ◌∷◌, length, drop, slice_get, Option, Some, None, if◌then◌else◌, codes}
-use Rattle.std.specs.List.{list_all, list_any}
+use Rattle.std.specs.Prelude.{ℕ, ◌≡◌, ◌^◌, ◌<◌, Bool, true, List, [], ◌∷◌, length, drop, slice_get, Option, Some, None, if◌then◌else◌, codes}
+use Rattle.std.specs.List.{list_all}
 use Rattle.std.specs.Str.Parse.{digits_value}
 use Rattle.mixed_circuit.specs.Text.{Text, lines, is_allowed}
 use Rattle.mixed_circuit.specs.Word.{are_digits, number_in, begins_hexadecimal}
 use Rattle.mixed_circuit.specs.Grammar.{content}
+use Rattle.mixed_circuit.specs.SoFar.{AreValuesSoFar}
 use Rattle.mixed_circuit.specs.Bits.{number}
 use Rattle.mixed_circuit.specs.Table.{Input, AreNamedApart}
 
@@ -40,15 +41,6 @@ pub record HasLine (lines : List (List Text)) (name : Text) : Type 0 where
 pub record BeginApart (lines : List (List Text)) : Type 0 where
   pub apart : (i j : ℕ) (x y : List Text) → slice_get lines i ≡ Some x → slice_get lines j ≡ Some y → slice_get x 0 ≡ slice_get y 0 → i ≡ j
 
--- the literal of a line is not in hexadecimal
-pub record IsDecimal (line : List Text) : Type 0 where
-  pub decimal : (literal : Text) → slice_get line 2 ≡ Some literal → begins_hexadecimal literal ≡ false
-
--- what is not read yet stands nowhere in the text: a comment, or a literal in hexadecimal
-pub record IsPlain (text : Text) : Type 0 where
-  pub bare : list_any (λ b. b == 35) text ≡ false
-  pub decimal : (at : ℕ) (line : List Text) → slice_get (content (lines text)) at ≡ Some line → IsDecimal line
-
 -- A text reads as values of inputs, a list of bits for each, as many as its width: each line that is not blank gives
 -- an input its value, and each input has one line
 pub record ReadsValues (inputs : List Input) (text : Text) (values : List (List Bool)) : Type 0 where
@@ -58,7 +50,7 @@ pub record ReadsValues (inputs : List Input) (text : Text) (values : List (List 
   pub given : (at : ℕ) (line : List Text) → slice_get (content (lines text)) at ≡ Some line → GivesValue inputs values line
   pub each : (at : ℕ) (input : Input) → slice_get inputs at ≡ Some input → HasLine (content (lines text)) input.name
   pub apart : BeginApart (content (lines text))
-  pub plain : IsPlain text
+  pub so_far : AreValuesSoFar text
 
 -- a text reads as at most one list of values
 abbrev pub ReadsOneList : Type 0

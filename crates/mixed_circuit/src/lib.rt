@@ -11,6 +11,6 @@ mod values;
 mod word;
 
 pub use circuit::{Form, MAX_STATEMENTS, Mixed, Receiver};
-pub use read::{CircuitError, read_mixed};
+pub use read::{CircuitError, read_mixed, reads_one_circuit};
 pub use table::{InputTable, MAX_INPUTS};
 pub use values::{Values, ValuesError, read_values, reads_one_list};

@@ -1,7 +1,7 @@
 ghost use Rattle.std.specs.Prelude.{ℕ, List, ◌≡◌, ◌≤◌, ◌<◌, ◌↔◌, ◌&&◌, true, [], ◌∷◌, length, map, Some, IfSome, IfNone, IfOk, OnOk, not, IsErrOf, IsTrue, false, codes};
 ghost use Rattle.std.specs.List.{list_all};
 ghost use Rattle.mixed_circuit.specs.Text.{Text, is_allowed, line_words};
-ghost use Rattle.mixed_circuit.specs.Grammar.{content, Reads};
+ghost use Rattle.mixed_circuit.specs.Grammar.{content, Reads, ReadsOneCircuit};
 ghost use Rattle.mixed_circuit.specs.Word.{number_of, begins_hexadecimal};
 ghost use Rattle.mixed_circuit.specs.Circuit.{Circuit, Statement, IsCircuit, no_statements};
 ghost use Rattle.mixed_circuit.specs.Reading.{ReadsLines, SaysSoFar, AddsLine, Adds, SaysAssigned, SaysOutput, SaysValue, SaysInput, SaysPair, operation_word, IsPartiesLine};
@@ -11,7 +11,7 @@ ghost use Rattle.mixed_circuit.specs.declared.read.Operation.{Operation};
 
 use crate::builder::Builder;
 use crate::circuit::{Form, Mixed, Receiver};
-use crate::text::{are_allowed, line_words_of, lines_of};
+use crate::text::{is_text_so_far, line_words_of, lines_of};
 use crate::word::{is_name_word, number};
 use mot_base::Party;
 use share_types::WireType;
@@ -52,6 +52,11 @@ pub fn read_mixed(alloc: Global, bytes: &[u8]) -> Result<Mixed, CircuitError>
     read_lines(alloc, lines.as_slice())
 }
 
+/// A text reads as at most one circuit.
+pub fn reads_one_circuit()
+    ensures { ReadsOneCircuit }
+{}
+
 /// Reads a circuit from the lines of its text.
 fn read_lines(alloc: Global, lines: &[&[u8]]) -> Result<Mixed, CircuitError>
     ensures ok { IfOk result (λ c. ReadsLines (map (λ line. line.now) lines.now) c) }
@@ -66,19 +71,6 @@ fn read_lines(alloc: Global, lines: &[&[u8]]) -> Result<Mixed, CircuitError>
         return Err(CircuitError::Refused);
     }
     read_statements(alloc, PARTIES_SO_FAR, rest)
-}
-
-/// Whether all bytes may stand in a text, and no comment begins, which is not read so far.
-fn is_text_so_far(bytes: &[u8]) -> bool
-    ensures { result ≡ (list_all is_allowed bytes.now && no_comment bytes.now) }
-{
-    are_allowed(bytes) && has_no_comment(bytes)
-}
-
-fn has_no_comment(bytes: &[u8]) -> bool
-    ensures { result ≡ no_comment bytes.now }
-{
-    bytes.iter().all(|byte| *byte != b'#')
 }
 
 /// The words of the first line that is not blank, and the lines behind it.

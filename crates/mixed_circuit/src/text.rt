@@ -1,5 +1,6 @@
-ghost use Rattle.std.specs.Prelude.{◌≡◌, ◌≤◌, ◌==◌, length, map, position, IfOk, IfSome};
+ghost use Rattle.std.specs.Prelude.{◌≡◌, ◌≤◌, ◌==◌, ◌&&◌, length, map, position, IfOk, IfSome};
 ghost use Rattle.mixed_circuit.specs.Text.{lines, is_line_end, ends_empty, words, line_words, without_comment, is_blank, is_allowed};
+ghost use Rattle.mixed_circuit.specs.SoFar.{no_comment};
 ghost use Rattle.std.specs.List.{slice_split, position_or_len, list_all};
 
 use std::alloc::{AllocError, Global};
@@ -76,7 +77,7 @@ fn first_hash(line: &[u8]) -> Option<usize>
 }
 
 /// Whether all bytes may stand in a text.
-pub fn are_allowed(bytes: &[u8]) -> bool
+fn are_allowed(bytes: &[u8]) -> bool
     ensures { result ≡ list_all is_allowed bytes.now }
 {
     bytes.iter().all(|byte| is_allowed_byte(*byte))
@@ -87,4 +88,17 @@ fn is_allowed_byte(byte: u8) -> bool
     ensures { result ≡ is_allowed byte }
 {
     is_blank_byte(byte) || byte == b'\n' || matches!(byte, 32..=126)
+}
+
+/// Whether all bytes may stand in a text, and no comment begins, which is not read so far.
+pub fn is_text_so_far(bytes: &[u8]) -> bool
+    ensures { result ≡ (list_all is_allowed bytes.now && no_comment bytes.now) }
+{
+    are_allowed(bytes) && has_no_comment(bytes)
+}
+
+fn has_no_comment(bytes: &[u8]) -> bool
+    ensures { result ≡ no_comment bytes.now }
+{
+    bytes.iter().all(|byte| *byte != b'#')
 }

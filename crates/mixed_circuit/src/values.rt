@@ -6,13 +6,14 @@ ghost use Rattle.mixed_circuit.specs.Text.{Text, lines, is_allowed, without_comm
 ghost use Rattle.mixed_circuit.specs.Word.{begins_hexadecimal, number_of};
 ghost use Rattle.mixed_circuit.specs.Grammar.{content};
 ghost use Rattle.mixed_circuit.specs.Table.{AreNamedApart};
-ghost use Rattle.mixed_circuit.specs.Values.{ReadsValues, ReadsOneList, GivesNumber, IsDecimal};
+ghost use Rattle.mixed_circuit.specs.Values.{ReadsValues, ReadsOneList, GivesNumber};
+ghost use Rattle.mixed_circuit.specs.SoFar.{IsDecimal, no_comment};
 ghost use Rattle.mixed_circuit.specs.Bits as spec;
 ghost use Rattle.mixed_circuit.specs.Gathered.{ArePlaces, Gathered, Adds, AddsNone, AreBitsOf};
 ghost use Rattle.mixed_circuit.specs.declared.values.ValuesError.TheVariants.{Refused};
 
 use crate::table::InputTable;
-use crate::text::{are_allowed, line_words_of, lines_of};
+use crate::text::{is_text_so_far, line_words_of, lines_of};
 use crate::word::number;
 use mot_base::Party;
 use share_types::Bits;
@@ -120,7 +121,7 @@ pub fn read_values(
     ensures refused { IsErrOf result Refused → (values : List (List Bool)) → ¬ ReadsValues inputs.now bytes.now values }
 {
     let _ = owner;
-    if !are_allowed(bytes) || has_comment(bytes) {
+    if !is_text_so_far(bytes) {
         return Err(ValuesError::Refused);
     }
     let numbers = read_numbers(alloc, bytes, inputs)?;
@@ -131,13 +132,6 @@ pub fn read_values(
 pub fn reads_one_list()
     ensures { ReadsOneList }
 {}
-
-/// Whether a text has a comment, which is not read yet.
-fn has_comment(bytes: &[u8]) -> bool
-    ensures { result ≡ list_any (λ b. b == 35) bytes.now }
-{
-    bytes.contains(&b'#')
-}
 
 /// The number that the lines of a text give each input.
 fn read_numbers(

@@ -2,4 +2,6 @@
 #![tactic(auto)]
 
 #[cfg(test)]
+mod circuits;
+#[cfg(test)]
 mod values;

@@ -1,4 +1,4 @@
-use Rattle.std.proofs.Common.{List, map, drop}
+use Rattle.std.proofs.Common.{map, drop}
 use Rattle.mixed_circuit.proofs.ReadingLemmas.{AreBlankTo}
 use Rattle.mixed_circuit.proofs.read.header_line.Given as goal
 

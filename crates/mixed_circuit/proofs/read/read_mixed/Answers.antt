@@ -1,6 +1,6 @@
 use Rattle.std.proofs.Common.{◌≡◌, ◌∙◌, sym, ap, subst, List, map, Bor, true, ◌&&◌}
 use Rattle.std.specs.List.{list_all}
-use Rattle.mixed_circuit.specs.Text.{Text, lines, is_allowed}
+use Rattle.mixed_circuit.specs.Text.{Text, is_allowed}
 use Rattle.mixed_circuit.specs.SoFar.{no_comment}
 use Rattle.mixed_circuit.specs.Reading.{ReadsLines}
 use Rattle.mixed_circuit.proofs.ReadLemmas.{accepted, read_lines_of}

@@ -1,5 +1,4 @@
-use Rattle.std.proofs.Common.{ℕ, ◌≡◌, ◌∙◌, ◌<◌, ◌+◌, sym, ap, subst, List, map, drop, length, arith, Bor, []}
-use Rattle.mixed_circuit.specs.Text.{Text}
+use Rattle.std.proofs.Common.{◌<◌, subst, map, length, arith, []}
 use Rattle.mixed_circuit.specs.Circuit.{no_statements}
 use Rattle.mixed_circuit.proofs.ReadingLemmas.{IsReadTo, read_more, rest-cons}
 use Rattle.mixed_circuit.proofs.read.read_statements.Goals as goal

@@ -1,4 +1,4 @@
-use Rattle.std.proofs.Common.{ℕ, ◌≡◌, ◌∙◌, sym, ap, List, map, Bor}
+use Rattle.std.proofs.Common.{ℕ, ◌∙◌, sym, ap, List, map, Bor}
 use Rattle.std.specs.Prelude.{◌==◌}
 use Rattle.mixed_circuit.specs.Text.{Text}
 use Rattle.mixed_circuit.proofs.ReadingLemmas.{text_to, text_refused, some_from_length}

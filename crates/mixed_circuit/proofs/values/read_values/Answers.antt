@@ -13,7 +13,7 @@ returns-clause-ok c =
     let numbers = c.in_ok-numbers.numbers.items in
     let P : List (List Bool) → List (Option ℕ) → Type 0 = λ values ns. AreBitsOf inputs ns values in
     IfOk-weaker c.values_of.result (λ values. AreBitsOf inputs c.deref.result.now values) (λ values. ReadsValues inputs bytes values)
-    (λ values are. reads_values inputs bytes numbers values (sym c.are_allowed.ensures ∙ c.if-not-are_allowed.false) (sym c.has_comment.ensures ∙ c.if-has_comment.false) c.in_ok-numbers.ensures.ok (subst (P values) c.deref.ensures.value are))
+    (λ values are. reads_values inputs bytes numbers values (sym c.is_text_so_far.ensures ∙ c.if-not-is_text_so_far.false) c.in_ok-numbers.ensures.ok (subst (P values) c.deref.ensures.value are))
     c.values_of.ensures.ok
 
 pub returns-clause-refused : goal.returns-clause-refused

@@ -1,4 +1,4 @@
-use Rattle.std.proofs.Common.{◌≡◌, ◌∙◌, List, ℕ, subst, true, not}
+use Rattle.std.proofs.Common.{◌≡◌, ◌∙◌, subst, true}
 use Rattle.std.specs.Str.Parse.{ParsesUnsigned}
 use Rattle.mixed_circuit.specs.Text.{Text}
 use Rattle.mixed_circuit.specs.Word.{are_digits}

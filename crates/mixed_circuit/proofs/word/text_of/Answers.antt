@@ -1,5 +1,4 @@
-use Rattle.std.proofs.Common.{◌≡◌, Bool, true, Ok, Err, Result, refl, ◌∙◌, List, ℕ, Bor}
-use Rattle.std.specs.Prelude.{is_ok, MatchResult}
+use Rattle.std.proofs.Common.{◌∙◌}
 use Rattle.std.proofs.lemmas.Str.{IsUtf8-from_ascii}
 use Rattle.mixed_circuit.proofs.WordLemmas.{ok_from_cases}
 use Rattle.mixed_circuit.proofs.word.text_of.Goals as goal

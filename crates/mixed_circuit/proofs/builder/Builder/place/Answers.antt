@@ -1,6 +1,6 @@
-use Rattle.std.proofs.Common.{◌≡◌, sym, ◌∙◌, ap, subst}
+use Rattle.std.proofs.Common.{sym, ◌∙◌, subst}
 use Rattle.std.proofs.lemmas.Bool.{false≢true}
-use Rattle.mixed_circuit.specs.Circuit.{Circuit, IsCircuit, place_of}
+use Rattle.mixed_circuit.specs.Circuit.{IsCircuit}
 use Rattle.mixed_circuit.proofs.CircuitLemmas.{place_of-none}
 use Rattle.mixed_circuit.proofs.builder.Builder.place.Goals as goal
 

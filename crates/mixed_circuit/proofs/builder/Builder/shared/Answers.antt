@@ -1,5 +1,5 @@
-use Rattle.std.proofs.Common.{◌≡◌, sym, ◌∙◌, ap, subst, ◌<◌, length}
-use Rattle.mixed_circuit.specs.Circuit.{Circuit, place_of}
+use Rattle.std.proofs.Common.{sym, ◌∙◌, subst, ◌<◌, length}
+use Rattle.mixed_circuit.specs.Circuit.{Circuit}
 use Rattle.mixed_circuit.proofs.CircuitLemmas.{place_of-within}
 use Rattle.mixed_circuit.proofs.builder.Builder.shared.Goals as goal
 

@@ -1,4 +1,4 @@
-use Rattle.std.proofs.Common.{◌≡◌, sym, ◌∙◌, ap, refl}
+use Rattle.std.proofs.Common.{sym, ◌∙◌, ap, refl}
 use Rattle.mixed_circuit.specs.Circuit.{Circuit, place_of}
 use Rattle.mixed_circuit.proofs.CircuitLemmas.{place_of-output}
 use Rattle.mixed_circuit.proofs.builder.Builder.with_output.Goals as goal

@@ -1,9 +1,9 @@
-use Rattle.std.proofs.Common.{ℕ, List, ◌≡◌, sym, ◌∙◌, ap, ◌≢◌, refl, length, subst, cond, Some, None, Option}
+use Rattle.std.proofs.Common.{ℕ, ◌≡◌, sym, ◌∙◌, ap, refl, length, subst, cond, Some, None, Option}
 use Rattle.std.specs.Str.{bytes_eq}
 use Rattle.std.specs.HashMap.{get_by_text}
 use Rattle.std.proofs.lemmas.Bool.{false≢true}
 use Rattle.std.proofs.lemmas.Map.Text.{hash_map_updates_text}
-use Rattle.mixed_circuit.specs.Circuit.{Circuit, Statement, place_of, with_statement}
+use Rattle.mixed_circuit.specs.Circuit.{Circuit, place_of}
 use Rattle.mixed_circuit.specs.Text.{Text}
 use Rattle.mixed_circuit.proofs.CircuitLemmas.{place_of-value, name_ascii}
 use Rattle.mixed_circuit.proofs.builder.Builder.with_value.Goals as goal

@@ -1,4 +1,4 @@
-use Rattle.std.proofs.Common.{ℕ, ◌≡◌, ◌<◌, length, refl, arith}
+use Rattle.std.proofs.Common.{◌<◌, length, refl, arith}
 use Rattle.mixed_circuit.proofs.InputLemmas.{listed_next, listed_apart}
 use Rattle.mixed_circuit.proofs.circuit.Mixed.inputs.Goals as goal
 
