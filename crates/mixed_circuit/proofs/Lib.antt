@@ -2,7 +2,7 @@ mod TextLemmas
 mod WordLemmas
 mod CircuitLemmas
 mod ReadingLemmas
-mod ReadLemmas
+pub mod ReadLemmas
 mod InputLemmas
 mod BitsLemmas
 mod ListLemmas

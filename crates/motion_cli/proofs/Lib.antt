@@ -4,3 +4,4 @@ mod LocalLemmas
 mod Dealing
 mod Running
 mod MotionLemmas
+mod Completeness

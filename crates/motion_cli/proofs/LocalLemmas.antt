@@ -13,7 +13,7 @@ use Rattle.mixed_circuit.specs.Table.{Input, form_inputs, inputs_of}
 use Rattle.mixed_circuit.specs.Text.{Text}
 use Rattle.mixed_circuit.specs.Values.{ReadsValues}
 use Rattle.motion_cli.specs.declared.run.Shares.{Shares}
-use Rattle.motion_cli.specs.Run.{word_of_shares, inputs_of as taken, count_inputs}
+use Rattle.motion_cli.specs.Run.{word_of_shares, inputs_taken, count_inputs}
 
 -- the words so far and the numbers of the values that are left are the numbers of all values
 pub record AreWordsTo (values : List (List Bool)) (words : List ℕ) (at : ℕ) : Type 0 where
@@ -35,7 +35,7 @@ words_next values words after at word within width value pushed so_far = record 
 
 -- As many words as the run takes.
 
-one_more : (form : Form) (name : Text) → taken form ≡ length (form_inputs name form)
+one_more : (form : Form) (name : Text) → inputs_taken form ≡ length (form_inputs name form)
 one_more (InputA party) name = refl
 one_more (AddA x y) name = refl
 one_more (SubA x y) name = refl

@@ -35,7 +35,7 @@ local_ended told before after request answer faults_before faults_after was is s
 
 -- Status 0: a report.
 
-status_of : {answer other : Answer} → answer ≡ other → answer.status ≡ other.status
+pub status_of : {answer other : Answer} → answer ≡ other → answer.status ≡ other.status
 status_of e = ap (λ (a : Answer). a.status) e
 
 reports_from_values : (request : LocalRequest) (c : Circuit) (text : Text) (answer : Answer) → AfterCircuit request c text answer → answer.status ≡ 0 →

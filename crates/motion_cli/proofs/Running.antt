@@ -16,7 +16,7 @@ use Rattle.mixed_circuit.specs.declared.circuit.Form.TheVariants.{InputA, AddA, 
 use Rattle.mixed_circuit.specs.Circuit.{Circuit, Statement, IsCircuit, IsAllowed, wire_at}
 use Rattle.mixed_circuit.specs.Eval.{form_value, inputs_behind, values_behind}
 use Rattle.motion_cli.specs.declared.run.Shares.{Shares}
-use Rattle.motion_cli.specs.Run.{word_of_shares, inputs_of, count_of, count_inputs, count_triples, IsReady, shares_given, left_opened, right_opened, form_shares, HasItsShares, IsRun}
+use Rattle.motion_cli.specs.Run.{word_of_shares, inputs_taken, count_of, count_inputs, count_triples, IsReady, shares_given, left_opened, right_opened, form_shares, HasItsShares, IsRun}
 
 -- Two parties' product.
 
@@ -93,8 +93,8 @@ drop_next (t ∷ ss) zero s h = cc
 drop_next (t ∷ ss) (suc at) s h = rw add-one (drop_next ss at s h ∙ rw add-one refl)
 
 pub count_next : (ss : List Statement) (at : ℕ) (form : Form) → StandsAt ss at form →
-    count_inputs (drop at ss) ≡ inputs_of form + count_inputs (drop (at + 1) ss)
-count_next ss at form r = ap count_inputs (drop_next ss at r.s r.there) ∙ ap (λ (f : Form). inputs_of f + count_inputs (drop (at + 1) ss)) r.has
+    count_inputs (drop at ss) ≡ inputs_taken form + count_inputs (drop (at + 1) ss)
+count_next ss at form r = ap count_inputs (drop_next ss at r.s r.there) ∙ ap (λ (f : Form). inputs_taken f + count_inputs (drop (at + 1) ss)) r.has
 
 pub values_next : (inputs values : List ℕ) (ss : List Statement) (at : ℕ) (form : Form) → StandsAt ss at form →
     values_behind inputs values (drop at ss) ≡
@@ -135,10 +135,10 @@ ready c at count form circuit two r e =
 -- What a statement more leaves.
 
 pub inputs_before : (ss : List Statement) (at : ℕ) (form : Form) (left : List ℕ) → StandsAt ss at form →
-    count_inputs (drop at ss) ≤ length left → inputs_of form ≤ length left
+    count_inputs (drop at ss) ≤ length left → inputs_taken form ≤ length left
 inputs_before ss at form left r h = omega (arith, count_next ss at form r)
 
-length-inputs_behind : (left : List ℕ) (form : Form) → length (inputs_behind left form) ≡ length left - inputs_of form
+length-inputs_behind : (left : List ℕ) (form : Form) → length (inputs_behind left form) ≡ length left - inputs_taken form
 length-inputs_behind left (InputA party) = length-drop 1 left
 length-inputs_behind left (AddA x y) = omega arith
 length-inputs_behind left (SubA x y) = omega arith
@@ -184,7 +184,7 @@ pub count_more : (f : Form → ℕ) (ss : List Statement) (at : ℕ) (form : For
     count_of f (take (at + 1) ss) ≡ count_of f (take at ss) + f form
 count_more f ss at form r = count_take f ss at r.s r.there ∙ ap (λ (g : Form). count_of f (take at ss) + f g) r.has
 
-drop-inputs_behind : (left : List ℕ) (form : Form) → inputs_behind left form ≡ drop (inputs_of form) left
+drop-inputs_behind : (left : List ℕ) (form : Form) → inputs_behind left form ≡ drop (inputs_taken form) left
 drop-inputs_behind left (InputA party) = refl
 drop-inputs_behind left (AddA x y) = refl
 drop-inputs_behind left (SubA x y) = refl
@@ -196,9 +196,9 @@ pub left_more : (ss : List Statement) (at : ℕ) (form : Form) (inputs left rest
     rest ≡ inputs_behind left form → left ≡ drop (count_inputs (take at ss)) inputs →
     rest ≡ drop (count_inputs (take (at + 1) ss)) inputs
 left_more ss at form inputs left rest r as_rest as_left =
-    as_rest ∙ (drop-inputs_behind left form ∙ (ap (drop (inputs_of form)) as_left ∙
-    (drop-drop (inputs_of form) (count_inputs (take at ss)) inputs ∙
-    ap (λ (n : ℕ). drop n inputs) (sym (count_more inputs_of ss at form r)))))
+    as_rest ∙ (drop-inputs_behind left form ∙ (ap (drop (inputs_taken form)) as_left ∙
+    (drop-drop (inputs_taken form) (count_inputs (take at ss)) inputs ∙
+    ap (λ (n : ℕ). drop n inputs) (sym (count_more inputs_taken ss at form r)))))
 
 -- each of the first statements has the shares of its form
 abbrev pub IsRunSoFar : List Statement → List ℕ → List ℕ → List Shares → ℕ → Type 0

@@ -3,11 +3,7 @@ use Rattle.std.specs.Prelude.{ℕ, ◌≡◌, ◌≤◌, ◌⊎◌, List, [], �
 use Rattle.mot_base.specs.declared.files.TheConstants.{MAX_FILE_LENGTH}
 use Rattle.mot_base.specs.Files.{Holding, IsTooLong}
 use Rattle.mixed_circuit.specs.Text.{Text}
-use Rattle.mixed_circuit.specs.Circuit.{Circuit}
-use Rattle.mixed_circuit.specs.Grammar.{Reads}
-use Rattle.mixed_circuit.specs.SoFar.{IsReadSoFar}
-use Rattle.motion_cli.specs.Report.{line_end, local_report}
-use Rattle.motion_cli.specs.Words.{LocalRequest}
+use Rattle.motion_cli.specs.Report.{line_end}
 use Rattle.motion_cli.specs.declared.answer.Answer.{Answer as Kept}
 use Rattle.motion_cli.specs.declared.answer.Status.{Status}
 use Rattle.motion_cli.specs.declared.answer.Status.TheVariants.{Done, Usage, Values, File, Write, Memory}
@@ -41,6 +37,9 @@ too_long_answer name = file_answer name (codes "too long")
 abbrev pub fault_answer : Text → Answer
 fault_answer name = file_answer name (codes "fault")
 
+abbrev pub memory_answer : Answer
+memory_answer = record { status = 11; text = codes "memory" ++ line_end }
+
 -- What files are told to hold, where anything is told.
 
 abbrev pub IsMissing : Option Holding → Text → Type 0
@@ -58,9 +57,6 @@ AfterLoad told name next answer =
     (IsMissing told name × (answer ≡ missing_answer name))
     ⊎ ((IsOverlong told name × (answer ≡ too_long_answer name))
     ⊎ ((content : Text) × IsContent told name content × next content answer))
-
-abbrev pub memory_answer : Answer
-memory_answer = record { status = 11; text = codes "memory" ++ line_end }
 
 -- the number of a status
 abbrev pub code_of : Status → ℕ

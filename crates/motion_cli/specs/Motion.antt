@@ -1,5 +1,5 @@
 -- What the program ends with, from the words after its name.
-use Rattle.std.specs.Prelude.{ℕ, ◌≡◌, ◌⊎◌, List, Option}
+use Rattle.std.specs.Prelude.{ℕ, ◌≡◌, ◌⊎◌, List, Option, Some}
 use Rattle.mot_base.specs.Files.{Holding}
 use Rattle.mot_base.specs.Sink.{with_more}
 use Rattle.mixed_circuit.specs.Text.{Text}
@@ -37,3 +37,12 @@ pub record IsDone {R : Type 0} (asks : R → Type 0) (reports : R → Text → T
   pub report : Text
   pub reported : reports request report
   pub appended : after ≡ with_more before report
+
+-- words ask for something that files are told to report
+pub record IsReportable {R : Type 0} (asks : R → Type 0) (reports : Option Holding → R → Text → Type 0) (told : Option Holding) : Type 0 where
+  pub request : R
+  pub asked : asks request
+  pub held : Holding
+  pub are_told : told ≡ Some held
+  pub report : Text
+  pub reported : reports (Some held) request report

@@ -16,12 +16,12 @@ word_of_shares s = word_sum s.first s.second
 -- What the statements take.
 
 -- how many inputs a form takes
-abbrev pub inputs_of : Form → ℕ
-inputs_of (InputA party) = 1
-inputs_of (AddA x y) = 0
-inputs_of (SubA x y) = 0
-inputs_of (MulA x y) = 0
-inputs_of (Output x to) = 0
+abbrev pub inputs_taken : Form → ℕ
+inputs_taken (InputA party) = 1
+inputs_taken (AddA x y) = 0
+inputs_taken (SubA x y) = 0
+inputs_taken (MulA x y) = 0
+inputs_taken (Output x to) = 0
 
 -- how many triples a form takes
 abbrev pub triples_of : Form → ℕ
@@ -38,7 +38,7 @@ count_of f (s ∷ more) = f s.form + count_of f more
 
 -- how many inputs statements take
 abbrev pub count_inputs : List Statement → ℕ
-count_inputs statements = count_of inputs_of statements
+count_inputs statements = count_of inputs_taken statements
 
 -- how many triples statements take
 abbrev pub count_triples : List Statement → ℕ

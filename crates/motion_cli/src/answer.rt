@@ -38,9 +38,7 @@ impl Status {
             Status::Memory => 11,
         }
     }
-}
 
-impl Status {
     /// The status where the text could not be written: a report that is cut is not done.
     pub fn where_cut(self) -> Status
         ensures { code_of result ≡ (if code_of self == 0 then 9 else code_of self) }

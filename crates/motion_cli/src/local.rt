@@ -1,4 +1,5 @@
 ghost use Rattle.std.specs.Prelude.{◌≡◌, ◌≤◌, ◌⊎◌, ℕ, ◌<◌, [], length, map, slice_index_or, IfOk};
+ghost use Rattle.mot_base.specs.Faults.{Rose};
 ghost use Rattle.mixed_circuit.specs.Bits.{number};
 ghost use Rattle.mixed_circuit.specs.Circuit.{Circuit};
 ghost use Rattle.mixed_circuit.specs.SoFar.{IsReadSoFar};
@@ -7,7 +8,7 @@ ghost use Rattle.mixed_circuit.specs.Values.{ReadsValues};
 ghost use Rattle.motion_cli.specs.Answer.{AfterLoad, answer_of};
 ghost use Rattle.motion_cli.specs.End.{Ended};
 ghost use Rattle.motion_cli.specs.Local.{LocalAnswers, LocalEnds, LocalReports, IsFault, AfterTexts, AfterCircuit, report_answer};
-ghost use Rattle.motion_cli.specs.Motion.{RequestEnds, RequestReports, LocalCommandEnds, MotionEnds, IsDone};
+ghost use Rattle.motion_cli.specs.Motion.{RequestEnds, RequestReports, LocalCommandEnds, MotionEnds, IsDone, IsReportable};
 ghost use Rattle.motion_cli.specs.Words.{Request, LocalRequest, AsksFor, IsLocal, local_request, request_of, texts};
 
 use crate::answer::{Answer, Status};
@@ -27,6 +28,8 @@ pub fn motion<F: Files, S: Sink>(alloc: Global, words: &[String], files: &mut F,
     ensures usage { (result ≡ 1 → (request : Request) → ¬ (AsksFor (texts words.entry.now) request))
         × (((request : Request) → ¬ (AsksFor (texts words.entry.now) request)) → result ≡ 1) }
     ensures done { result ≡ 0 → IsDone (AsksFor (texts words.entry.now)) (RequestReports (F.holds files.old)) (S.appended out.old) (S.appended out.new) }
+    ensures complete { IsReportable (AsksFor (texts words.entry.now)) RequestReports (F.holds files.old) → ¬ (Rose (F.faults files.old) (F.faults files.new))
+        → ¬ (Rose (S.faults out.old) (S.faults out.new)) → (result ≡ 0) ⊎ (result ≡ 11) }
     ensures ended { Ended (MotionEnds (F.holds files.old) (F.faults files.old) (F.faults files.new) (texts words.entry.now))
         (S.faults out.old) (S.faults out.new) (S.appended out.old) (S.appended out.new) result }
     ensures same { F.holds files.new ≡ F.holds files.old }
@@ -62,6 +65,8 @@ pub fn local_command<F: Files, S: Sink>(
     ensures usage { (result ≡ 1 → (request : LocalRequest) → ¬ (IsLocal (texts words.entry.now) request))
         × (((request : LocalRequest) → ¬ (IsLocal (texts words.entry.now) request)) → result ≡ 1) }
     ensures done { result ≡ 0 → IsDone (IsLocal (texts words.entry.now)) (LocalReports (F.holds files.old)) (S.appended out.old) (S.appended out.new) }
+    ensures complete { IsReportable (IsLocal (texts words.entry.now)) LocalReports (F.holds files.old) → ¬ (Rose (F.faults files.old) (F.faults files.new))
+        → ¬ (Rose (S.faults out.old) (S.faults out.new)) → (result ≡ 0) ⊎ (result ≡ 11) }
     ensures ended { Ended (LocalCommandEnds (F.holds files.old) (F.faults files.old) (F.faults files.new) (texts words.entry.now))
         (S.faults out.old) (S.faults out.new) (S.appended out.old) (S.appended out.new) result }
     ensures same { F.holds files.new ≡ F.holds files.old }

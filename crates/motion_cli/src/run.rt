@@ -2,7 +2,7 @@ ghost use Rattle.std.specs.Prelude.{◌≡◌, ◌<◌, ◌≤◌, [], ◌∷◌
 ghost use Rattle.arithmetic_gmw.specs.Laws.{IsTriple};
 ghost use Rattle.arithmetic_gmw.specs.Shares.{word_sum, word_difference, word_product};
 ghost use Rattle.mixed_circuit.specs.Eval.{form_value, inputs_behind, evaluated};
-ghost use Rattle.motion_cli.specs.Run.{word_of_shares, count_inputs, inputs_of, triples_of, IsReady, input_shares, each_by_itself, left_opened, right_opened, product_shares, form_shares, IsRun};
+ghost use Rattle.motion_cli.specs.Run.{word_of_shares, count_inputs, inputs_taken, triples_of, IsReady, input_shares, each_by_itself, left_opened, right_opened, product_shares, form_shares, IsRun};
 
 use crate::deal::{DealtTriple, dealt_triple};
 use arithmetic_gmw::{add, mul_close, mul_open, share_out, sub};
@@ -72,7 +72,7 @@ fn shares_of(
 ) -> Result<Shares, NoMemory>
     requires gate { gate < 4194304 }
     requires ready { IsReady (length before.now) form }
-    requires inputs { inputs_of form ≤ length left.now }
+    requires inputs { inputs_taken form ≤ length left.now }
     ensures shares { IfOk result (λ s. s ≡ form_shares seed.now.0 gate triple left.now before.now form) }
     ensures value { IfOk result (λ s. word_of_shares s ≡ form_value left.now (map word_of_shares before.now) form) }
 {
@@ -90,7 +90,7 @@ fn shares_of(
 
 /// The inputs that are left behind a form.
 fn inputs_left(inputs: &[u64], form: Form) -> &[u64]
-    requires { inputs_of form ≤ length inputs.now }
+    requires { inputs_taken form ≤ length inputs.now }
     ensures { result.now ≡ inputs_behind inputs.entry.now form }
 {
     match form {
@@ -189,7 +189,7 @@ mod tests {
     const CIRCUIT: &[u8] =
         b"mixed 1\nparties 2\nx = input 0 A\ny = input 1 A\nz = mul x y\noutput z all\n";
 
-    // the first triple of the deal for the seed of 32 zero bytes, as the dealer's files hold it
+    // the first triple of the deal for the seed of 32 zero bytes
     const FIRST_PART: MultTriple = MultTriple {
         a: 0x99d2379c2e837805,
         b: 0x1c2add9a53828a36,
@@ -261,13 +261,13 @@ mod tests {
     {
         let mut count = 0;
         for at in 0..circuit.len() {
-            count += inputs_of(circuit.form(at));
+            count += inputs_taken(circuit.form(at));
         }
         count
     }
 
-    fn inputs_of(form: Form) -> usize
-        ensures value { result ≡ inputs_of form }
+    fn inputs_taken(form: Form) -> usize
+        ensures value { result ≡ inputs_taken form }
         ensures most { result ≤ 1 }
     {
         match form {
