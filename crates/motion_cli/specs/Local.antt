@@ -12,7 +12,7 @@ use Rattle.mixed_circuit.specs.Values.{ReadsValues}
 use Rattle.mixed_circuit.specs.Eval.{evaluated}
 use Rattle.motion_cli.specs.Report.{local_report}
 use Rattle.motion_cli.specs.Words.{LocalRequest}
-use Rattle.motion_cli.specs.Answer.{Answer, AfterLoad, circuit_answer, values_answer, fault_answer, memory_answer}
+use Rattle.motion_cli.specs.Answer.{Answer, IsContent, AfterLoad, circuit_answer, values_answer, fault_answer, memory_answer}
 
 -- the report of a circuit's plain evaluation on values, a list of bits for each input
 abbrev pub report_answer : Circuit → List (List Bool) → Answer
@@ -47,3 +47,21 @@ LocalEnds told before after request answer =
     ⊎ (IsFault before after request.circuit answer
     ⊎ (IsFault before after request.values answer
     ⊎ (answer ≡ memory_answer)))
+
+-- a file is told to hold a text that leads to something
+abbrev pub Holds : Option Holding → Text → (Text → Type 0) → Type 0
+Holds told name next = (content : Text) × IsContent told name content × next content
+
+-- texts of a circuit and of values that are read, and the report of the circuit's evaluation on the values
+pub record IsReportOf (circuit values report : Text) : Type 0 where
+  pub read : Circuit
+  pub reads : Reads circuit read
+  pub so_far : IsReadSoFar circuit read
+  pub inputs : List (List Bool)
+  pub reads_inputs : ReadsValues (inputs_of read.statements) values inputs
+  pub reported : report ≡ local_report read (evaluated read.statements (map number inputs))
+
+-- `local` reports this, with files that are told to hold this
+abbrev pub LocalReports : Option Holding → LocalRequest → Text → Type 0
+LocalReports told request report =
+    Holds told request.circuit (λ circuit. Holds told request.values (λ values. IsReportOf circuit values report))

@@ -1,9 +1,10 @@
 -- What the program ends with, from the words after its name.
 use Rattle.std.specs.Prelude.{ℕ, ◌≡◌, ◌⊎◌, List, Option}
 use Rattle.mot_base.specs.Files.{Holding}
+use Rattle.mot_base.specs.Sink.{with_more}
 use Rattle.mixed_circuit.specs.Text.{Text}
 use Rattle.motion_cli.specs.Answer.{Answer, usage_answer}
-use Rattle.motion_cli.specs.Local.{LocalEnds}
+use Rattle.motion_cli.specs.Local.{LocalEnds, LocalReports}
 use Rattle.motion_cli.specs.Words.{Request, LocalRequest, IsLocal, AsksFor}
 use Rattle.motion_cli.specs.Words.Request.{local}
 
@@ -24,3 +25,15 @@ LocalCommandEnds told before after words = AskedFor (IsLocal words) (LocalEnds t
 -- what the words after the program's name end with
 abbrev pub MotionEnds : Option Holding → ℕ → ℕ → List Text → Answer → Type 0
 MotionEnds told before after words = AskedFor (AsksFor words) (RequestEnds told before after)
+
+-- what a request reports
+abbrev pub RequestReports : Option Holding → Request → Text → Type 0
+RequestReports told (local request) = LocalReports told request
+
+-- words that ask for something were done: its report was appended, and nothing else
+pub record IsDone {R : Type 0} (asks : R → Type 0) (reports : R → Text → Type 0) (before after : Option Text) : Type 0 where
+  pub request : R
+  pub asked : asks request
+  pub report : Text
+  pub reported : reports request report
+  pub appended : after ≡ with_more before report

@@ -6,9 +6,9 @@ ghost use Rattle.mixed_circuit.specs.Table.{inputs_of};
 ghost use Rattle.mixed_circuit.specs.Values.{ReadsValues};
 ghost use Rattle.motion_cli.specs.Answer.{AfterLoad, answer_of};
 ghost use Rattle.motion_cli.specs.End.{Ended};
-ghost use Rattle.motion_cli.specs.Local.{LocalAnswers, LocalEnds, IsFault, AfterTexts, AfterCircuit, report_answer};
-ghost use Rattle.motion_cli.specs.Motion.{RequestEnds, LocalCommandEnds, MotionEnds};
-ghost use Rattle.motion_cli.specs.Words.{local_request, request_of, texts};
+ghost use Rattle.motion_cli.specs.Local.{LocalAnswers, LocalEnds, LocalReports, IsFault, AfterTexts, AfterCircuit, report_answer};
+ghost use Rattle.motion_cli.specs.Motion.{RequestEnds, RequestReports, LocalCommandEnds, MotionEnds, IsDone};
+ghost use Rattle.motion_cli.specs.Words.{Request, LocalRequest, AsksFor, IsLocal, local_request, request_of, texts};
 
 use crate::answer::{Answer, Status};
 use crate::end::end;
@@ -24,6 +24,9 @@ use std::alloc::Global;
 
 /// Does all that the program does with the words after its name, and answers the status that it ends with.
 pub fn motion<F: Files, S: Sink>(alloc: Global, words: &[String], files: &mut F, out: &mut S) -> u8
+    ensures usage { (result ≡ 1 → (request : Request) → ¬ (AsksFor (texts words.entry.now) request))
+        × (((request : Request) → ¬ (AsksFor (texts words.entry.now) request)) → result ≡ 1) }
+    ensures done { result ≡ 0 → IsDone (AsksFor (texts words.entry.now)) (RequestReports (F.holds files.old)) (S.appended out.old) (S.appended out.new) }
     ensures ended { Ended (MotionEnds (F.holds files.old) (F.faults files.old) (F.faults files.new) (texts words.entry.now))
         (S.faults out.old) (S.faults out.new) (S.appended out.old) (S.appended out.new) result }
     ensures same { F.holds files.new ≡ F.holds files.old }
@@ -56,6 +59,9 @@ pub fn local_command<F: Files, S: Sink>(
     files: &mut F,
     out: &mut S,
 ) -> u8
+    ensures usage { (result ≡ 1 → (request : LocalRequest) → ¬ (IsLocal (texts words.entry.now) request))
+        × (((request : LocalRequest) → ¬ (IsLocal (texts words.entry.now) request)) → result ≡ 1) }
+    ensures done { result ≡ 0 → IsDone (IsLocal (texts words.entry.now)) (LocalReports (F.holds files.old)) (S.appended out.old) (S.appended out.new) }
     ensures ended { Ended (LocalCommandEnds (F.holds files.old) (F.faults files.old) (F.faults files.new) (texts words.entry.now))
         (S.faults out.old) (S.faults out.new) (S.appended out.old) (S.appended out.new) result }
     ensures same { F.holds files.new ≡ F.holds files.old }
