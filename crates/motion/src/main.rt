@@ -1,29 +1,35 @@
 //! The program: the words after its name, the machine's files and standard output.
 #![tactic(auto)]
 
+ghost use Rattle.std.specs.Prelude.{◌≡◌, ◌≢◌};
+
 use mot_base::{HostFiles, HostSink};
+use motion_cli::motion;
 use std::env;
 use std::io::{self, ErrorKind};
 use std::process::ExitCode;
 
 fn main(rt: HostRuntime) -> ExitCode {
-    let words = match words(&rt) {
+    let words = match words_after_name(&rt) {
         Ok(words) => words,
-        Err(error) => return ExitCode::from(status_without_words(&error)),
+        Err(error) => return ExitCode::from(status_without_words(error.kind())),
     };
     let mut files = HostFiles::new(&rt);
     let mut out = HostSink::new(&rt);
-    ExitCode::from(motion_cli::motion(rt.alloc(), words.as_slice(), &mut files, &mut out))
+    ExitCode::from(motion(rt.alloc(), words.as_slice(), &mut files, &mut out))
 }
 
 /// The words after the program's name.
-fn words(rt: &HostRuntime) -> io::Result<Vec<String>> {
+fn words_after_name(rt: &HostRuntime) -> io::Result<Vec<String>> {
     Ok(env::args(rt)?.skip(1).collect(rt.alloc())?)
 }
 
-/// The status where there are no words: memory ran out, or one of them is not UTF-8.
-fn status_without_words(error: &io::Error) -> u8 {
-    match error.kind() {
+/// The status where there are no words: memory ran out, or one of them is not UTF-8. Nothing is written.
+fn status_without_words(cause: ErrorKind) -> u8
+    ensures memory { cause ≡ ErrorKind.OutOfMemory → result ≡ 11 }
+    ensures others { cause ≢ ErrorKind.OutOfMemory → result ≡ 1 }
+{
+    match cause {
         ErrorKind::OutOfMemory => 11,
         _ => 1,
     }
