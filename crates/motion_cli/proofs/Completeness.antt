@@ -1,5 +1,5 @@
 -- Why words whose files are told to hold a circuit and its values end with a report.
-use Rattle.std.proofs.Common.{ℕ, ◌≡◌, ◌<◌, ◌⊎◌, inl, inr, sym, ap, ap₂, subst, List, ◌∷◌, length, Option, Some, None, ◌∙◌, arith}
+use Rattle.std.proofs.Common.{ℕ, ◌≡◌, ◌<◌, ◌⊎◌, inl, inr, ap, ap₂, subst, List, ◌∷◌, length, Option, Some, None, ◌∙◌, arith}
 use Rattle.std.specs.Prelude.{IsSomeAnd}
 use Rattle.mot_base.specs.Faults.{Rose}
 use Rattle.mot_base.specs.Files.{Holding, IsTooLong}
@@ -10,7 +10,7 @@ use Rattle.mixed_circuit.specs.Text.{Text}
 use Rattle.mixed_circuit.specs.Values.{ReadsValues}
 use Rattle.motion_cli.specs.Answer.{Answer, AfterLoad, IsContent}
 use Rattle.motion_cli.specs.End.{Writes, Ended}
-use Rattle.motion_cli.specs.Local.{AfterCircuit, AfterTexts, LocalEnds, Holds, IsReportOf, LocalReports}
+use Rattle.motion_cli.specs.Local.{AfterCircuit, AfterTexts, LocalEnds, IsReportOf, LocalReports}
 use Rattle.motion_cli.specs.Motion.{RequestEnds, RequestReports, IsReportable}
 use Rattle.motion_cli.specs.Words.{LocalRequest, Request, IsLocal, AsksFor}
 use Rattle.motion_cli.specs.Words.Request.{local}
@@ -106,10 +106,11 @@ complete_of {R} asks ends reports told request faults_before faults_after was is
     let E : Option Holding → Type 0 = λ t. ends t request ended.answer in
     let F : R → Type 0 = λ r. ends (Some ready.held) r ended.answer in
     by_status (completes ready.held ready.request ready.report ended.answer ready.reported
-        (subst F (one request ready.request asked ready.asked) (subst E ready.are_told ended.cause)))
+    (subst F (one request ready.request asked ready.asked) (subst E ready.are_told ended.cause)))
   where
     whole : status ≡ ended.answer.status
     whole = written_whole faults_before faults_after was is ended.answer status still ended.written
+
     by_status : (ended.answer.status ≡ 0) ⊎ (ended.answer.status ≡ 11) → (status ≡ 0) ⊎ (status ≡ 11)
     by_status (inl done) = inl (whole ∙ done)
     by_status (inr memory) = inr (whole ∙ memory)

@@ -1,5 +1,5 @@
 -- What is written of an answer where not all of it is.
-use Rattle.std.proofs.Common.{ℕ, ◌≡◌, ◌≢◌, ◌<◌, List, [], ◌++◌, length, take, drop, Option, refl, ap, arith}
+use Rattle.std.proofs.Common.{ℕ, ◌≡◌, ◌≢◌, ◌<◌, [], length, take, drop, Option, ap, arith}
 use Rattle.std.proofs.lemmas.List.{length-drop, take-append-drop}
 use Rattle.mot_base.specs.Sink.{with_more}
 use Rattle.mixed_circuit.specs.Text.{Text}

@@ -1,5 +1,5 @@
 -- The words of a circuit's inputs.
-use Rattle.std.proofs.Common.{ℕ, zero, suc, ◌≡◌, ◌<◌, ◌≤◌, ◌+◌, Bool, List, [], ◌∷◌, ◌++◌, length, map, take, drop, get_or, Some, sym, refl, ◌∙◌, ap, subst, add-one, arith, append_assoc}
+use Rattle.std.proofs.Common.{ℕ, zero, suc, ◌≡◌, ◌<◌, ◌+◌, Bool, List, [], ◌∷◌, ◌++◌, length, map, take, drop, get_or, Some, sym, refl, ◌∙◌, ap, add-one, arith, append_assoc}
 use Rattle.std.specs.Prelude.{slice_get, slice_index_or}
 use Rattle.std.proofs.Math.Seq.{drop-cons, take-length}
 use Rattle.std.proofs.lemmas.List.{length-map, length-append}

@@ -1,5 +1,5 @@
 -- How a command ends.
-use Rattle.std.proofs.Common.{ℕ, zero, suc, Bool, ◌≡◌, ◌≢◌, ◌==◌, if◌then◌else◌, ◌⊎◌, inl, inr, sym, ap, subst, List, Option, ◌∙◌, arith}
+use Rattle.std.proofs.Common.{ℕ, zero, suc, Bool, ◌≡◌, ◌≢◌, ◌==◌, if◌then◌else◌, ◌⊎◌, inl, inr, sym, ap, subst, Option, ◌∙◌, arith}
 use Rattle.std.proofs.Math.Dec.{eqb-suc-zero}
 use Rattle.mot_base.specs.Files.{Holding}
 use Rattle.mot_base.specs.Sink.{with_more}
@@ -7,8 +7,8 @@ use Rattle.mixed_circuit.specs.Circuit.{Circuit}
 use Rattle.mixed_circuit.specs.Grammar.{Reads}
 use Rattle.mixed_circuit.specs.SoFar.{IsReadSoFar}
 use Rattle.mixed_circuit.specs.Text.{Text}
-use Rattle.motion_cli.specs.Answer.{Answer, AfterLoad, IsContent, usage_answer}
-use Rattle.motion_cli.specs.End.{Writes, IsCut, Ended, cut_status}
+use Rattle.motion_cli.specs.Answer.{Answer, AfterLoad}
+use Rattle.motion_cli.specs.End.{Writes, Ended, cut_status}
 use Rattle.motion_cli.specs.Local.{AfterCircuit, AfterTexts, LocalAnswers, LocalEnds, IsFault, Holds, IsReportOf, LocalReports}
 use Rattle.motion_cli.specs.Motion.{AskedFor, RequestEnds, RequestReports, IsDone}
 use Rattle.motion_cli.specs.Words.{LocalRequest, Request}

@@ -1,6 +1,6 @@
 -- The lines of the outputs, one statement after another.
 use Rattle.std.proofs.Common.{ℕ, ◌≡◌, ◌<◌, ◌+◌, List, [], ◌∷◌, ◌++◌, length, map, drop, get_or, Option, Some, None, zero, suc, sym, refl, ◌∙◌, ap, ap₂, subst, add-one, arith, append_assoc}
-use Rattle.std.specs.Prelude.{slice_get, slice_index, IfSome}
+use Rattle.std.specs.Prelude.{slice_get, IfSome}
 use Rattle.std.proofs.lemmas.Option.{slice_get_within, get_or_from_slice_get}
 use Rattle.std.proofs.Math.Seq.{drop-cons}
 use Rattle.mixed_circuit.specs.Text.{Text}

@@ -1,5 +1,5 @@
 -- What the program answers: the first cause for which it refuses, or the report.
-use Rattle.std.specs.Prelude.{ℕ, ◌≡◌, ◌≤◌, ◌⊎◌, List, [], ◌∷◌, ◌++◌, length, codes, string_bytes, Option, Some, None, IfSome, IsSomeAnd}
+use Rattle.std.specs.Prelude.{ℕ, ◌≡◌, ◌≤◌, ◌⊎◌, ◌++◌, length, codes, string_bytes, Option, Some, None, IfSome, IsSomeAnd}
 use Rattle.mot_base.specs.declared.files.TheConstants.{MAX_FILE_LENGTH}
 use Rattle.mot_base.specs.Files.{Holding, IsTooLong}
 use Rattle.mixed_circuit.specs.Text.{Text}

@@ -5,7 +5,7 @@ use Rattle.mot_base.specs.Sink.{with_more}
 use Rattle.mixed_circuit.specs.Text.{Text}
 use Rattle.motion_cli.specs.Answer.{Answer, usage_answer}
 use Rattle.motion_cli.specs.Local.{LocalEnds, LocalReports}
-use Rattle.motion_cli.specs.Words.{Request, LocalRequest, IsLocal, AsksFor}
+use Rattle.motion_cli.specs.Words.{Request, IsLocal, AsksFor}
 use Rattle.motion_cli.specs.Words.Request.{local}
 
 -- words that ask for nothing end with the usage, and words that ask for something as that ends

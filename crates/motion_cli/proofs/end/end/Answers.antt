@@ -1,7 +1,7 @@
-use Rattle.std.proofs.Common.{ℕ, ◌≡◌, ◌∙◌, ◌<◌, sym, ap, inr, subst, take, length, Option}
+use Rattle.std.proofs.Common.{◌∙◌, ◌<◌, ap, inr, subst, take, length}
 use Rattle.mot_base.specs.Sink.{with_more}
 use Rattle.mixed_circuit.specs.Text.{Text}
-use Rattle.motion_cli.specs.Answer.{Answer, code_of}
+use Rattle.motion_cli.specs.Answer.{code_of}
 use Rattle.motion_cli.proofs.EndLemmas.{cut}
 use Rattle.motion_cli.proofs.end.end.Goals as goal
 

@@ -1,4 +1,4 @@
-use Rattle.std.proofs.Common.{◌∙◌, ap, length, map, arith}
+use Rattle.std.proofs.Common.{◌∙◌, ap, length, arith}
 use Rattle.std.proofs.lemmas.List.{length-map}
 use Rattle.mixed_circuit.specs.Bits.{number}
 use Rattle.motion_cli.proofs.LocalLemmas.{count-inputs, as_many}

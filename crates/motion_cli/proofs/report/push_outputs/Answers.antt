@@ -1,4 +1,4 @@
-use Rattle.std.proofs.Common.{ℕ, ◌≡◌, ◌<◌, length, refl, sym, ◌∙◌, arith}
+use Rattle.std.proofs.Common.{◌<◌, length, refl, arith}
 use Rattle.motion_cli.proofs.ReportLemmas.{report_next}
 use Rattle.motion_cli.proofs.report.push_outputs.Goals as goal
 

@@ -1,4 +1,3 @@
-use Rattle.std.proofs.Common.{◌≡◌, ◌++◌, drop}
 use Rattle.std.specs.Prelude.{string_bytes}
 use Rattle.motion_cli.proofs.ReportLemmas.{IsReportedTo}
 use Rattle.motion_cli.proofs.report.push_outputs.Given as goal
