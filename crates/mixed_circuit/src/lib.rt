@@ -1,4 +1,4 @@
-//! Circuits in mixed text: their language, their inputs' values and what they compute.
+//! Circuits and the values of their inputs as text, and the definition of what a circuit computes.
 #![tactic(auto)]
 
 mod builder;

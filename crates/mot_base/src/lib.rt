@@ -21,8 +21,8 @@ pub use mem_sink::MemSink;
 pub use sink::{Sink, WriteFailed, write_all};
 pub use tapes::{derive, tape_share, tape_word};
 
-/// The number of a party, from 0. A run has 2 to 8 parties; that the number is below theirs is a
-/// condition of the calls that take one.
+/// The number of a party, from 0. A run has 2 to 8 parties, and each of its parties has a number
+/// below theirs.
 #[derive(Clone, Copy, Debug, PartialEq, Eq, PartialOrd, Ord, Hash)]
 pub struct Party(pub u8);
 
@@ -34,7 +34,7 @@ pub struct Seed(pub [u8; 32]);
 #[derive(Clone, Copy, Debug, PartialEq, Eq)]
 pub struct NoMemory;
 
-/// The outside failed: a file, a link or the output.
+/// The outside failed, as an output that takes no more.
 #[derive(Clone, Copy, Debug, PartialEq, Eq)]
 pub struct Failed;
 

@@ -46,5 +46,5 @@ pub fn tape_share(seed: &Seed, session: u32, gate: u32, to: Party) -> u64
     u64::from(low) + (u64::from(high) << 32)
 }
 
-/// The place of the first share word on a tape. The places before it hold zero keys.
+/// The place of the first share word on a tape. The places before it are kept for zero keys.
 const SHARE_WORDS: u64 = 1 << 48;
