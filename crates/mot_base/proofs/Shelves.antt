@@ -6,7 +6,7 @@ use Rattle.std.specs.List.{position, position_or_len, slice_get}
 use Rattle.std.specs.Option.{option_and_then}
 use Rattle.mot_base.specs.declared.files.FileError.{FileError}
 use Rattle.mot_base.specs.declared.files.FileError.TheVariants.{Failed}
-use Rattle.mot_base.specs.Memory.{FilesInMemory, is_listed, load_fails}
+use Rattle.mot_base.specs.Memory.{FilesInMemory, is_listed, load_fails, store_fails}
 
 -- the first place at which a test passes for the images
 pub position_or_len-map : {X Y : Type 0} (p : Y → Bool) (f : X → Y) → (xs : List X) → position_or_len p (map f xs) ≡ position_or_len (λ x. p (f x)) xs
@@ -33,4 +33,9 @@ beyond p f g names contents place here past = rw (position-map p f names, here, 
 pub passes : (files : FilesInMemory) (name : List ℕ) (answer : Result (Vec ℕ Global) FileError) → is_listed files.fails files.calls ≡ false → (IsErrOf answer Failed → ⊥) → IsErrOf answer Failed ↔ IsTrue (load_fails files name)
 passes files name answer unlisted other =
     let never : load_fails files name ≡ false = rw unlisted refl in
+    (λ e. absurd (other e), λ t. absurd (let wrong = rw never at t in cc))
+
+pub store_passes : (files : FilesInMemory) (content : List ℕ) (answer : Result (Unit {0}) FileError) → is_listed files.fails files.calls ≡ false → (IsErrOf answer Failed → ⊥) → IsErrOf answer Failed ↔ IsTrue (store_fails files content)
+store_passes files content answer unlisted other =
+    let never : store_fails files content ≡ false = rw unlisted refl in
     (λ e. absurd (other e), λ t. absurd (let wrong = rw never at t in cc))

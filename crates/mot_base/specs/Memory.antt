@@ -1,9 +1,9 @@
 -- Files and a sink in memory: what is there, which calls fail, and what a call leaves.
-use Rattle.std.specs.Prelude.{ℕ, ◌-◌, ◌&&◌, ◌||◌, ◌==◌, Bool, true, min, List, [], ◌++◌, length, take, Option, Some, None, nat_lt, nat_le, slice_get, position, if◌then◌else◌}
+use Rattle.std.specs.Prelude.{ℕ, ◌-◌, ◌∷◌, ◌&&◌, ◌||◌, ◌==◌, Bool, true, min, List, [], ◌++◌, length, take, Option, Some, None, nat_lt, nat_le, slice_get, slice_set, position, if◌then◌else◌}
 use Rattle.std.specs.List.{list_any}
 use Rattle.std.specs.Option.{option_and_then}
 use Rattle.std.specs.Str.{bytes_eq}
-use Rattle.mot_base.specs.declared.files.TheConstants.{MAX_FILE_LENGTH}
+use Rattle.mot_base.specs.Limits.{most_file_bytes}
 use Rattle.mot_base.specs.Faults.{one_more}
 
 -- files in memory: the names, the content of each, the numbers of the calls that are to fail, and
@@ -34,7 +34,7 @@ held files name = option_and_then (slice_get files.contents) (position (bytes_eq
 
 -- whether a load of it may fail, since there is no content that is too long
 abbrev pub may_fail : Option (List ℕ) → Bool
-may_fail (Some content) = nat_le (length content) MAX_FILE_LENGTH
+may_fail (Some content) = nat_le (length content) most_file_bytes
 may_fail None = true
 
 -- whether a load of the name fails
@@ -47,6 +47,40 @@ after_load files name =
     record files {
       calls = one_more files.calls;
       faults = (if load_fails files name then one_more files.faults else files.faults);
+    }
+
+-- whether a store of the content fails: it is listed, and the content is not too long
+abbrev pub store_fails : FilesInMemory → List ℕ → Bool
+store_fails files content = is_listed files.fails files.calls && nat_le (length content) most_file_bytes
+
+-- the names and the contents once a content stands under a name: in place of the first content of the
+-- name, or behind all others
+abbrev pub names_with : List (List ℕ) → Option ℕ → List ℕ → List (List ℕ)
+names_with names (Some place) name = names
+names_with names None name = names ++ name ∷ []
+
+abbrev pub contents_with : List (List ℕ) → Option ℕ → List ℕ → List (List ℕ)
+contents_with contents (Some place) content = slice_set contents place content
+contents_with contents None content = contents ++ content ∷ []
+
+-- the files with the content under the name
+abbrev pub with_content : FilesInMemory → List ℕ → List ℕ → FilesInMemory
+with_content files name content =
+    record files {
+      names = names_with files.names (position (bytes_eq name) files.names) name;
+      contents = contents_with files.contents (position (bytes_eq name) files.names) content;
+    }
+
+-- the files after a store that put the content under the name
+abbrev pub after_storing : FilesInMemory → List ℕ → List ℕ → FilesInMemory
+after_storing files name content = record (with_content files name content) { calls = one_more files.calls }
+
+-- the files after a store of the content that was refused
+abbrev pub after_refusing : FilesInMemory → List ℕ → FilesInMemory
+after_refusing files content =
+    record files {
+      calls = one_more files.calls;
+      faults = (if store_fails files content then one_more files.faults else files.faults);
     }
 
 -- a sink to which nothing was written yet

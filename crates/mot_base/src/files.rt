@@ -1,22 +1,25 @@
-ghost use Rattle.std.specs.Prelude.{◌≡◌, ℕ, ◌≤◌, Option, IfOk, IfSome, IsErrOf, vec_len};
+ghost use Rattle.std.specs.Prelude.{◌≡◌, ℕ, ◌<◌, ◌≤◌, ◌↔◌, Option, length, IfOk, OnOk, IfSome, IsErrOf, vec_len};
 ghost use Rattle.mot_base.specs.Faults.{Rose};
-ghost use Rattle.mot_base.specs.Files.{Holding, IsAnswerFor};
+ghost use Rattle.mot_base.specs.Files.{Holding, IsAnswerFor, HoldsUnder, OthersStay};
+ghost use Rattle.mot_base.specs.Limits.{most_file_bytes};
 
 use std::alloc::{AllocError, Global};
-
-/// The greatest number of bytes that a file may have to be loaded.
-pub const MAX_FILE_LENGTH: usize = 67_108_864;
+use thiserror::Error;
 
 /// Why a call on a file gave nothing.
-#[derive(Clone, Copy, Debug, PartialEq, Eq)]
+#[derive(Clone, Copy, Debug, PartialEq, Eq, Error)]
 pub enum FileError {
     /// The system failed.
+    #[error("the file could not be read or written")]
     Failed,
     /// There is no file of that name.
+    #[error("there is no such file")]
     Missing,
-    /// The file has more than `MAX_FILE_LENGTH` bytes.
+    /// There are more than `MAX_FILE_LENGTH` bytes.
+    #[error("the file has more than 67108864 bytes")]
     TooLong,
     /// Memory ran out.
+    #[error("memory ran out")]
     NoMemory,
 }
 
@@ -27,6 +30,17 @@ impl From<AllocError> for FileError {
     ghost from_gives = { λ _ error. error ≡ NoMemory };
 
     fn from(_error: AllocError) -> FileError {
+        FileError::NoMemory
+    }
+}
+
+impl From<crate::NoMemory> for FileError {
+    ghost use Rattle.std.specs.Prelude.{◌≡◌};
+    ghost use Rattle.mot_base.specs.declared.files.FileError.TheVariants.{NoMemory};
+
+    ghost from_gives = { λ _ error. error ≡ NoMemory };
+
+    fn from(_error: crate::NoMemory) -> FileError {
         FileError::NoMemory
     }
 }
@@ -42,10 +56,21 @@ pub trait Files {
     /// What a name holds.
     fn load(&mut self, alloc: Global, name: &str) -> Result<Vec<u8>, FileError>
         ensures content { IfSome (holds self.old) (λ held. IsAnswerFor (held name.now) result) }
-        ensures length { IfOk result (λ bytes. vec_len bytes ≤ MAX_FILE_LENGTH) }
+        ensures length { IfOk result (λ bytes. vec_len bytes ≤ most_file_bytes) }
         ensures same { holds self.new ≡ holds self.old }
         ensures cause { IsErrOf result FileError.Failed → Rose (faults self.old) (faults self.new) }
         ensures missing { IsErrOf result FileError.Missing → faults self.new ≡ faults self.old }
+        ensures too_long { IsErrOf result FileError.TooLong → faults self.new ≡ faults self.old }
+        ensures never_falls { faults self.old ≤ faults self.new };
+
+    /// Puts the bytes under the name, in place of what it held. After a refusal nothing is known of what
+    /// the name holds. No refusal is `Missing`.
+    fn store(&mut self, alloc: Global, name: &str, bytes: &[u8]) -> Result<(), FileError>
+        ensures stored { OnOk result (HoldsUnder (holds self.new) name.now bytes.now) }
+        ensures others { OthersStay (holds self.old) (holds self.new) name.now }
+        ensures length { IsErrOf result FileError.TooLong ↔ most_file_bytes < length bytes.now }
+        ensures cause { IsErrOf result FileError.Failed → Rose (faults self.old) (faults self.new) }
+        ensures never_missing { ¬ IsErrOf result FileError.Missing }
         ensures too_long { IsErrOf result FileError.TooLong → faults self.new ≡ faults self.old }
         ensures never_falls { faults self.old ≤ faults self.new };
 }

@@ -40,6 +40,22 @@ impl<R: fs::Files + Drop> Files for HostFiles<R> {
             }
         }
     }
+
+    fn store(&mut self, _alloc: Global, name: &str, bytes: &[u8]) -> Result<(), FileError> {
+        if bytes.len() > MAX_FILE_LENGTH {
+            return Err(FileError::TooLong);
+        }
+        let Err(error) = fs::write(&self.rt, name, bytes) else {
+            return Ok(());
+        };
+        match error.kind() {
+            ErrorKind::OutOfMemory => Err(FileError::NoMemory),
+            _ => {
+                self.faults = self.faults.saturating_add(1);
+                Err(FileError::Failed)
+            }
+        }
+    }
 }
 
 /// The content of a file, or, where it is too long, its start with one byte too many.

@@ -6,20 +6,29 @@ ghost use Rattle.std.specs.Prelude.{◌≡◌};
 ghost use Rattle.mot_base.specs.declared.NoMemory.{NoMemory};
 
 use std::alloc::{AllocError, AllocFailed};
+use thiserror::Error;
 
 mod files;
 mod host;
+mod limits;
 mod mem_files;
 mod mem_sink;
+mod payload;
 mod sink;
 mod tapes;
 
-pub use files::{FileError, Files, MAX_FILE_LENGTH};
+pub use files::{FileError, Files};
 pub use host::{HostFiles, HostSink};
+pub use limits::{
+    DEALT_RECORDS, MAX_FILE_LENGTH, MAX_GATES, MAX_NAME_LENGTH, MAX_PARTIES, MAX_PAYLOAD_LENGTH,
+    MAX_STATEMENTS, MAX_WIDTH, MAX_WIRES, MAX_WORKERS, MIN_PARTIES, PEER_BYTES, SESSION_COUNT,
+    limits_are_defined,
+};
 pub use mem_files::MemFiles;
 pub use mem_sink::MemSink;
+pub use payload::Payload;
 pub use sink::{Sink, WriteFailed, write_all};
-pub use tapes::{derive, tape_share, tape_word};
+pub use tapes::{TapeReader, derive, tape_share, tape_shares, tape_word};
 
 /// The number of a party, from 0. A run has 2 to 8 parties, and each of its parties has a number
 /// below theirs.
@@ -31,11 +40,13 @@ pub struct Party(pub u8);
 pub struct Seed(pub [u8; 32]);
 
 /// Memory ran out.
-#[derive(Clone, Copy, Debug, PartialEq, Eq)]
+#[derive(Clone, Copy, Debug, PartialEq, Eq, Error)]
+#[error("memory ran out")]
 pub struct NoMemory;
 
 /// The outside failed, as an output that takes no more.
-#[derive(Clone, Copy, Debug, PartialEq, Eq)]
+#[derive(Clone, Copy, Debug, PartialEq, Eq, Error)]
+#[error("the outside failed")]
 pub struct Failed;
 
 impl From<AllocError> for NoMemory {

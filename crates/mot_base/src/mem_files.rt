@@ -1,11 +1,12 @@
-ghost use Rattle.std.specs.Prelude.{◌≡◌, ◌≤◌, ◌↔◌, map, Some, IfOk, IsErrOf, IsTrue, vec_len, vec_items, string_bytes, position};
+ghost use Rattle.std.specs.Prelude.{◌≡◌, ◌≢◌, ℕ, ◌<◌, ◌≤◌, ◌↔◌, ◌++◌, ◌∷◌, [], List, length, map, Some, IfOk, OnOk, OnErr, IsErrOf, IsTrue, vec_len, vec_items, string_bytes, position};
 ghost use Rattle.std.specs.Option.{option_copied};
 ghost use Rattle.std.specs.Str.{bytes_eq};
 ghost use Rattle.mot_base.specs.Faults.{Rose};
 ghost use Rattle.mot_base.specs.Files.{IsAnswerFor};
-ghost use Rattle.mot_base.specs.Memory.{FilesInMemory, held, load_fails, after_load};
+ghost use Rattle.mot_base.specs.Limits.{most_file_bytes};
+ghost use Rattle.mot_base.specs.Memory.{FilesInMemory, held, load_fails, after_load, store_fails, with_content, after_storing, after_refusing};
 
-use crate::{FileError, Files, MAX_FILE_LENGTH};
+use crate::{FileError, Files, MAX_FILE_LENGTH, NoMemory};
 use std::alloc::Global;
 use std::marker::Model;
 
@@ -53,6 +54,11 @@ impl MemFiles {
         }
     }
 
+    /// It tells what each name holds.
+    pub fn tells_what_it_holds()
+        ensures { (files : FilesInMemory) → ⟦<MemFiles as Files>⟧.holds files ≡ Some (held files) }
+    {}
+
     /// What a name holds. It is no call that is counted.
     pub fn get(&self, name: &str) -> Option<&[u8]>
         ensures { option_copied result ≡ held self.entry.now name.entry.now }
@@ -60,6 +66,37 @@ impl MemFiles {
         let place = place_of(&self.names, name)?;
         let content = self.contents.get(place)?;
         Some(content.as_slice())
+    }
+
+    /// Puts the content under the name: in place of the first content of the name, or behind all others.
+    fn put(&mut self, alloc: Global, name: &str, content: Vec<u8>) -> Result<(), NoMemory>
+        ensures ok { OnOk result (self.new ≡ with_content self.old name.now content.items) }
+        ensures err { OnErr result (self.new ≡ self.old) }
+    {
+        match place_of(&self.names, name) {
+            Some(place) => {
+                self.contents[place] = content;
+                Ok(())
+            }
+            None => self.add(alloc, name, content),
+        }
+    }
+
+    /// Puts a name with its content behind all others.
+    fn add(&mut self, alloc: Global, name: &str, content: Vec<u8>) -> Result<(), NoMemory>
+        ensures ok { OnOk result (self.new ≡ record self.old {
+          names = self.old.names ++ name.now ∷ [];
+          contents = self.old.contents ++ content.items ∷ [];
+        }) }
+        ensures err { OnErr result (self.new ≡ self.old) }
+    {
+        let name = String::from_str(alloc, name)?;
+        self.names.try_reserve(1)?;
+        self.contents.try_reserve(1)?;
+        let (Ok(()), Ok(())) = (self.names.push(name), self.contents.push(content)) else {
+            unreachable!()
+        };
+        Ok(())
     }
 }
 
@@ -70,7 +107,7 @@ impl Files for MemFiles {
 
     fn load(&mut self, alloc: Global, name: &str) -> Result<Vec<u8>, FileError>
         ensures content { IsAnswerFor (held self.old name.now) result }
-        ensures length { IfOk result (λ bytes. vec_len bytes ≤ MAX_FILE_LENGTH) }
+        ensures length { IfOk result (λ bytes. vec_len bytes ≤ most_file_bytes) }
         ensures same { held self.new ≡ held self.old }
         ensures cause { IsErrOf result FileError.Failed → Rose self.old.faults self.new.faults }
         ensures missing { IsErrOf result FileError.Missing → self.new.faults ≡ self.old.faults }
@@ -90,6 +127,31 @@ impl Files for MemFiles {
             Some(content) => Ok(Vec::from_slice(alloc, content)?),
             None => Err(FileError::Missing),
         }
+    }
+
+    fn store(&mut self, alloc: Global, name: &str, bytes: &[u8]) -> Result<(), FileError>
+        ensures stored { OnOk result (held self.new name.now ≡ Some bytes.now) }
+        ensures others { (other : List ℕ) → other ≢ name.now → held self.new other ≡ held self.old other }
+        ensures length { IsErrOf result FileError.TooLong ↔ most_file_bytes < length bytes.now }
+        ensures cause { IsErrOf result FileError.Failed → Rose self.old.faults self.new.faults }
+        ensures never_missing { ¬ IsErrOf result FileError.Missing }
+        ensures too_long { IsErrOf result FileError.TooLong → self.new.faults ≡ self.old.faults }
+        ensures never_falls { self.old.faults ≤ self.new.faults }
+        ensures failed { IsErrOf result FileError.Failed ↔ IsTrue (store_fails self.old bytes.now) }
+        ensures after_ok { OnOk result (self.new ≡ after_storing self.old name.now bytes.now) }
+        ensures after_err { OnErr result (self.new ≡ after_refusing self.old bytes.now) }
+    {
+        self.calls = self.calls.saturating_add(1);
+        if bytes.len() > MAX_FILE_LENGTH {
+            return Err(FileError::TooLong);
+        }
+        if self.fails.contains(&self.calls) {
+            self.faults = self.faults.saturating_add(1);
+            return Err(FileError::Failed);
+        }
+        let content = Vec::from_slice(alloc, bytes)?;
+        self.put(alloc, name, content)?;
+        Ok(())
     }
 }
 

@@ -45,6 +45,11 @@ impl MemSink {
         })
     }
 
+    /// It tells what was appended.
+    pub fn tells_what_was_appended()
+        ensures { (sink : SinkInMemory) → ⟦<MemSink as Sink>⟧.appended sink ≡ Some sink.appended }
+    {}
+
     /// What was appended.
     pub fn bytes(&self) -> &[u8]
         ensures { result.now ≡ self.entry.now.appended }

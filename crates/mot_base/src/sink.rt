@@ -3,6 +3,7 @@ ghost use Rattle.mot_base.specs.Faults.{Rose};
 ghost use Rattle.mot_base.specs.Sink.{with_more};
 
 use crate::Failed;
+use thiserror::Error;
 
 /// What bytes are written to.
 ///
@@ -23,7 +24,8 @@ pub trait Sink {
 }
 
 /// Not all bytes were appended: the first `written` of them were.
-#[derive(Clone, Copy, Debug, PartialEq, Eq)]
+#[derive(Clone, Copy, Debug, PartialEq, Eq, Error)]
+#[error("the output failed after {written} bytes")]
 pub struct WriteFailed {
     pub written: usize,
 }

@@ -1,6 +1,6 @@
 -- What the program answers: the first cause for which it refuses, or the report.
 use Rattle.std.specs.Prelude.{ℕ, ◌≡◌, ◌≤◌, ◌⊎◌, ◌++◌, length, codes, string_bytes, Option, Some, None, IfSome, IsSomeAnd}
-use Rattle.mot_base.specs.declared.files.TheConstants.{MAX_FILE_LENGTH}
+use Rattle.mot_base.specs.Limits.{most_file_bytes}
 use Rattle.mot_base.specs.Files.{Holding, IsTooLong}
 use Rattle.mixed_circuit.specs.Text.{Text}
 use Rattle.motion_cli.specs.Report.{line_end}
@@ -49,7 +49,7 @@ abbrev pub IsOverlong : Option Holding → Text → Type 0
 IsOverlong told name = IfSome told (λ held. IsSomeAnd (held name) IsTooLong)
 
 abbrev pub IsContent : Option Holding → Text → Text → Type 0
-IsContent told name content = (length content ≤ MAX_FILE_LENGTH) × IfSome told (λ held. held name ≡ Some content)
+IsContent told name content = (length content ≤ most_file_bytes) × IfSome told (λ held. held name ≡ Some content)
 
 -- what is answered where a file is loaded first: it is missing, or too long, or it leads on with its content
 abbrev pub AfterLoad : Option Holding → Text → (Text → Answer → Type 0) → Answer → Type 0
