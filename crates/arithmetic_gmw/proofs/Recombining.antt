@@ -2,9 +2,10 @@
 use Rattle.std.proofs.Common.{◌≡◌, ℕ, zero, suc, ◌+◌, ◌*◌, ◌%◌, ◌^◌, ◌<◌, List, [], ◌∷◌, length, map, zip, refl, sym, ◌∙◌, arith}
 use Rattle.std.proofs.Math.Dec.{eqb-suc-zero}
 use Rattle.std.proofs.lemmas.Nat.{mul-mod}
-use Rattle.share_types.specs.declared.MultTriple.{MultTriple}
-use Rattle.arithmetic_gmw.specs.Shares.{word_sum, word_difference, word_product, total, Recombines, part_of_public, raised_share, opened_left, opened_right, closed_share}
-use Rattle.arithmetic_gmw.specs.Laws.{IsTriple, by_number, by_party, SumRecombines, DifferenceRecombines, ScaledRecombines, RaisedRecombines, ProductRecombines}
+use Rattle.share_types.specs.declared.records.MultTriple.{MultTriple}
+use Rattle.share_types.specs.Sums.{word_sum, word_difference, word_product, total, Recombines, part_of_public, by_number, by_party}
+use Rattle.arithmetic_gmw.specs.Shares.{raised_share, opened_left, opened_right, closed_share}
+use Rattle.arithmetic_gmw.specs.Laws.{IsTriple, SumRecombines, DifferenceRecombines, ScaledRecombines, RaisedRecombines, ProductRecombines}
 
 -- a and b are the same modulo 2^64
 record Same (a b : ℕ) : Type 0 where

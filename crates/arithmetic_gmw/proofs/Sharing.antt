@@ -5,7 +5,7 @@ use Rattle.std.proofs.lemmas.List.{take_more, length-set, get_or-set_same, get_o
 use Rattle.std.proofs.lemmas.List.FromFn.{length-map-range_with_len, get_or-map-range_with_len}
 use Rattle.std.proofs.lemmas.Option.{slice_get-get_or}
 use Rattle.mot_base.specs.Tape.{share_of_tape}
-use Rattle.arithmetic_gmw.specs.Shares.{word_difference, total, Recombines}
+use Rattle.share_types.specs.Sums.{word_difference, total, Recombines}
 use Rattle.arithmetic_gmw.specs.Sharing.{word_of, words_of}
 
 total-push : (xs : List ℕ) (y : ℕ) → total (xs ++ y ∷ []) ≡ total xs + y

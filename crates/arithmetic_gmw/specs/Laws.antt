@@ -1,16 +1,8 @@
 -- What the parties' shares recombine to after each of them has made one call.
-use Rattle.std.specs.Prelude.{◌≡◌, ℕ, ◌+◌, ◌*◌, ◌<◌, List, [], ◌∷◌, length, map, zip}
-use Rattle.share_types.specs.declared.MultTriple.{MultTriple}
-use Rattle.arithmetic_gmw.specs.Shares.{word_sum, word_difference, word_product, total, Recombines, raised_share, opened_left, opened_right, closed_share}
-
--- what each party makes of its item by its number, which counts up from the first party's
-abbrev pub by_number : {X : Type 0} → (ℕ → X → ℕ) → ℕ → List X → List ℕ
-by_number f first [] = []
-by_number f first (x ∷ xs) = f first x ∷ by_number f (first + 1) xs
-
--- what each party makes of its item by its number, from party 0 on
-abbrev pub by_party : {X : Type 0} → (ℕ → X → ℕ) → List X → List ℕ
-by_party f xs = by_number f 0 xs
+use Rattle.std.specs.Prelude.{◌≡◌, ℕ, ◌+◌, ◌*◌, ◌<◌, List, length, map, zip}
+use Rattle.share_types.specs.declared.records.MultTriple.{MultTriple}
+use Rattle.share_types.specs.Sums.{word_sum, word_difference, word_product, total, Recombines, by_party}
+use Rattle.arithmetic_gmw.specs.Shares.{raised_share, opened_left, opened_right, closed_share}
 
 -- the sums of the parties' shares of x and y are shares of their sum
 abbrev pub SumRecombines : Type 0

@@ -1,31 +1,7 @@
--- Words modulo 2^64, shares of them, and what one party makes of its shares.
-use Rattle.std.specs.Prelude.{◌≡◌, ℕ, ◌+◌, ◌-◌, ◌*◌, ◌%◌, ◌^◌, nat_eq, if◌then◌else◌, List, [], ◌∷◌}
-use Rattle.share_types.specs.declared.MultTriple.{MultTriple}
-
--- the sum of two words modulo 2^64
-abbrev pub word_sum : ℕ → ℕ → ℕ
-word_sum x y = (x + y) % 2 ^ 64
-
--- the difference of two words modulo 2^64
-abbrev pub word_difference : ℕ → ℕ → ℕ
-word_difference x y = (x + (2 ^ 64 - y % 2 ^ 64)) % 2 ^ 64
-
--- the product of two words modulo 2^64
-abbrev pub word_product : ℕ → ℕ → ℕ
-word_product x y = (x * y) % 2 ^ 64
-
--- the sum of a list of numbers
-abbrev pub total : List ℕ → ℕ
-total [] = 0
-total (x ∷ xs) = x + total xs
-
--- the shares recombine to x: their sum is x modulo 2^64
-abbrev pub Recombines : List ℕ → ℕ → Type 0
-Recombines shares x = total shares % 2 ^ 64 ≡ x % 2 ^ 64
-
--- what of a public number a party adds to its share: party 0 the number, the others nothing
-abbrev pub part_of_public : ℕ → ℕ → ℕ
-part_of_public me c = if nat_eq me 0 then c else 0
+-- What one party makes of its shares of words modulo 2^64.
+use Rattle.std.specs.Prelude.{ℕ, ◌+◌, ◌*◌, ◌%◌, ◌^◌}
+use Rattle.share_types.specs.Sums.{word_sum, word_difference, part_of_public}
+use Rattle.share_types.specs.declared.records.MultTriple.{MultTriple}
 
 -- a party's share after a public constant is added
 abbrev pub raised_share : ℕ → ℕ → ℕ → ℕ

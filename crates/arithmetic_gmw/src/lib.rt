@@ -2,12 +2,14 @@
 //! parties sum to the word.
 #![tactic(auto)]
 
-ghost use Rattle.std.specs.Prelude.{◌≡◌, ◌≢◌, ℕ, ◌<◌, ◌≤◌, IfOk, vec_len, slice_get, remove};
+ghost use Rattle.std.specs.Prelude.{◌≡◌, ◌≢◌, ℕ, ◌<◌, ◌≤◌, IfOk, vec_len, slice_get, remove, nat_eq, if◌then◌else◌};
 ghost use Rattle.mot_base.specs.Tape.{share_of_tape};
+ghost use Rattle.mot_base.specs.Limits.{most_parties, most_gates, session_count};
+ghost use Rattle.share_types.specs.Sums.{word_sum, word_difference, word_product, total, Recombines, part_of_public};
 ghost use Rattle.arithmetic_gmw.specs.Sharing.{word_of, words_of};
-ghost use Rattle.arithmetic_gmw.specs.Shares.{word_sum, word_difference, word_product, total, Recombines, part_of_public, raised_share, opened_left, opened_right, closed_share};
+ghost use Rattle.arithmetic_gmw.specs.Shares.{raised_share, opened_left, opened_right, closed_share};
 
-use mot_base::{NoMemory, Party, Seed, tape_share};
+use mot_base::{NoMemory, Party, Seed, tape_shares};
 use share_types::MultTriple;
 use std::alloc::Global;
 
@@ -29,9 +31,9 @@ pub fn share_out(
     me: Party,
     parties: u8,
 ) -> Result<Vec<u64>, NoMemory>
-    requires session { session < 65536 }
-    requires gate { gate < 4194304 }
-    requires parties { parties ≤ 8 }
+    requires session { session < session_count }
+    requires gate { gate < most_gates }
+    requires parties { parties ≤ most_parties }
     requires me { me.0 < parties }
     ensures count { IfOk result (λ shares. vec_len shares ≡ parties) }
     ensures others { IfOk result (λ shares. (to : ℕ) → to < parties → to ≢ me.0 →
@@ -46,7 +48,7 @@ pub fn share_out(
     Ok(shares)
 }
 
-/// The share words for all parties in order, with 0 in the place of `me`.
+/// The share words for the first parties in order, with 0 in the place of `me`.
 fn words_for(
     alloc: Global,
     seed: &Seed,
@@ -55,31 +57,25 @@ fn words_for(
     me: Party,
     parties: u8,
 ) -> Result<Vec<u64>, NoMemory>
-    requires session { session < 65536 }
-    requires gate { gate < 4194304 }
-    requires parties { parties ≤ 8 }
+    requires session { session < session_count }
+    requires gate { gate < most_gates }
+    requires parties { parties ≤ most_parties }
     ensures { IfOk result (λ words. words.items ≡ words_of seed.now.0 session gate me.0 parties) }
 {
+    let tape = tape_shares(seed, session, gate);
     let mut words = Vec::with_capacity(alloc, usize::from(parties))?;
     for to in 0..parties {
-        words.push(word_for(seed, session, gate, me, Party(to)))?;
+        let word = tape[usize::from(to)];
+        words.push(unless_own(me, Party(to), word))?;
     }
     Ok(words)
 }
 
-/// The share word for the party `to`, and 0 where this is `me`.
-#[tactic(auto, unfolding(crate::specs::Sharing::word_of))]
-fn word_for(seed: &Seed, session: u32, gate: u32, me: Party, to: Party) -> u64
-    requires session { session < 65536 }
-    requires gate { gate < 4194304 }
-    requires to { to.0 < 8 }
-    ensures { result ≡ word_of seed.now.0 session gate me.0 to.0 }
+/// The word for the party `to`, and 0 where this is `me`.
+fn unless_own(me: Party, to: Party, word: u64) -> u64
+    ensures { result ≡ (if nat_eq to.0 me.0 then 0 else word) }
 {
-    if to == me {
-        0
-    } else {
-        tape_share(seed, session, gate, to)
-    }
+    if to == me { 0 } else { word }
 }
 
 /// The value less all the words.

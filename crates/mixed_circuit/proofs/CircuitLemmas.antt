@@ -1,8 +1,8 @@
 -- What one more statement changes in a circuit, and where its names stand.
 use Rattle.std.proofs.Common.{ℕ, ◌≡◌, ◌<◌, ◌+◌, Bool, true, false, ◌&&◌, ◌||◌, List, [], ◌∷◌, ◌++◌, length, take, Some, None, Option, suc, add-one, refl, sym, ◌∙◌, ap, subst, cond, arith, ◌⊎◌, inl, inr}
 use Rattle.std.specs.Prelude.{slice_get, option_map, option_and_then, is_some, MatchOption}
-use Rattle.share_types.specs.declared.WireType.{WireType}
-use Rattle.share_types.specs.declared.WireType.TheVariants.{A}
+use Rattle.share_types.specs.declared.sharing.WireType.{WireType}
+use Rattle.share_types.specs.declared.sharing.WireType.TheVariants.{A}
 use Rattle.mixed_circuit.specs.declared.circuit.Form.{Form}
 use Rattle.mixed_circuit.specs.declared.circuit.Form.TheVariants.{InputA, AddA, SubA, MulA, Output}
 use Rattle.std.specs.Option.{option_or}

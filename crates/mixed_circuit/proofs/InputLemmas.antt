@@ -9,7 +9,7 @@ use Rattle.std.proofs.Math.Seq.{drop-cons}
 use Rattle.mixed_circuit.proofs.WordLemmas.{both}
 use Rattle.mixed_circuit.proofs.ListLemmas.{same_some, some_at}
 use Rattle.mot_base.specs.declared.Party.{Party}
-use Rattle.share_types.specs.declared.WireType.{WireType}
+use Rattle.share_types.specs.declared.sharing.WireType.{WireType}
 use Rattle.mixed_circuit.specs.declared.circuit.Form.{Form}
 use Rattle.mixed_circuit.specs.declared.circuit.Form.TheVariants.{InputA, AddA, SubA, MulA, Output}
 use Rattle.mixed_circuit.specs.Word.{is_name}

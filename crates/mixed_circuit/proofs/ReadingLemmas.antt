@@ -6,7 +6,7 @@ use Rattle.std.specs.Str.{bytes_eq}
 use Rattle.std.proofs.lemmas.Bool.{false≢true}
 use Rattle.std.proofs.lemmas.Slice.Eq.{bytes_eq-Decides}
 use Rattle.std.proofs.Math.Seq.{take-length, drop-cons}
-use Rattle.share_types.specs.declared.WireType.TheVariants.{A}
+use Rattle.share_types.specs.declared.sharing.WireType.TheVariants.{A}
 use Rattle.mixed_circuit.specs.declared.circuit.Form.{Form}
 use Rattle.mixed_circuit.specs.declared.circuit.Form.TheVariants.{InputA, AddA, SubA, MulA, Output}
 use Rattle.mixed_circuit.specs.declared.read.Operation.{Operation}
@@ -16,7 +16,7 @@ use Rattle.mixed_circuit.specs.declared.circuit.Receiver.{Receiver}
 use Rattle.mixed_circuit.specs.declared.circuit.Receiver.TheVariants.{All, One}
 use Rattle.mixed_circuit.specs.declared.read.Said.{Said}
 use Rattle.mixed_circuit.specs.declared.read.CircuitError.{CircuitError}
-use Rattle.share_types.specs.declared.WireType.{WireType}
+use Rattle.share_types.specs.declared.sharing.WireType.{WireType}
 use Rattle.mixed_circuit.specs.Word.{is_name, number_of}
 use Rattle.mixed_circuit.specs.Circuit.{Circuit, Statement, IsCircuit, Follows, wire_of, wire_at, place_of, with_statement}
 use Rattle.mixed_circuit.specs.Grammar.{Spell, Says, spelling, receiver_piece, content, some_words}

@@ -1,8 +1,8 @@
 -- Circuits of statements: how each is shared, and what it asks of the statements before it.
 use Rattle.std.specs.Prelude.{ℕ, ◌≡◌, ◌<◌, ◌≤◌, true, List, [], ◌∷◌, ◌++◌, length, take, slice_get, Option, Some, None, option_and_then, option_map, if◌then◌else◌, ◌+◌, ◌&&◌, IsSome, MatchOption, ⊤, is_some}
 use Rattle.std.specs.Str.{bytes_eq}
-use Rattle.share_types.specs.declared.WireType.{WireType}
-use Rattle.share_types.specs.declared.WireType.TheVariants.{A}
+use Rattle.share_types.specs.declared.sharing.WireType.{WireType}
+use Rattle.share_types.specs.declared.sharing.WireType.TheVariants.{A}
 use Rattle.mixed_circuit.specs.declared.circuit.Form.{Form}
 use Rattle.mixed_circuit.specs.declared.circuit.Form.TheVariants.{InputA, AddA, SubA, MulA, Output}
 use Rattle.mixed_circuit.specs.declared.circuit.Receiver.{Receiver}

@@ -1,7 +1,7 @@
 -- What the parts of the reader give.
 use Rattle.std.specs.Prelude.{ℕ, ◌≡◌, ◌<◌, List, [], ◌∷◌, length, Some, None, true, codes}
 use Rattle.std.specs.List.{list_all}
-use Rattle.share_types.specs.declared.WireType.TheVariants.{A}
+use Rattle.share_types.specs.declared.sharing.WireType.TheVariants.{A}
 use Rattle.mixed_circuit.specs.declared.circuit.Form.{Form}
 use Rattle.mixed_circuit.specs.declared.circuit.Form.TheVariants.{InputA, Output}
 use Rattle.mixed_circuit.specs.declared.circuit.Receiver.TheVariants.{All}

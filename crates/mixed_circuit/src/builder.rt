@@ -1,6 +1,6 @@
 ghost use Rattle.std.specs.Prelude.{◌≡◌, ◌<◌, ◌≤◌, [], true, length, Some, None, IfSome, IfOk, IfNone, IsTrue, ◌↔◌, ◌≢◌, ℕ};
-ghost use Rattle.share_types.specs.declared.WireType.{WireType};
-ghost use Rattle.share_types.specs.declared.WireType.TheVariants.{A};
+ghost use Rattle.share_types.specs.declared.sharing.WireType.{WireType};
+ghost use Rattle.share_types.specs.declared.sharing.WireType.TheVariants.{A};
 ghost use Rattle.mixed_circuit.specs.Circuit.{no_statements, IsCircuit, Follows, place_of, wire_at, max_statements, with_statement};
 
 use crate::circuit::{Form, MAX_STATEMENTS, Mixed, Statement};

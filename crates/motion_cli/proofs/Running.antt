@@ -5,10 +5,11 @@ use Rattle.std.proofs.lemmas.Option.{slice_get_within, option_and_then_some}
 use Rattle.std.proofs.lemmas.List.{length-take, length-drop, map-append, take-append-le, drop-drop}
 use Rattle.std.proofs.lemmas.Bool.{cases_lt}
 use Rattle.std.proofs.Math.Seq.{take-append_seam}
-use Rattle.share_types.specs.declared.MultTriple.{MultTriple}
-use Rattle.share_types.specs.declared.WireType.{WireType}
-use Rattle.share_types.specs.declared.WireType.TheVariants.{A}
-use Rattle.arithmetic_gmw.specs.Shares.{word_sum, word_difference, word_product, total, Recombines, closed_share}
+use Rattle.share_types.specs.declared.records.MultTriple.{MultTriple}
+use Rattle.share_types.specs.declared.sharing.WireType.{WireType}
+use Rattle.share_types.specs.declared.sharing.WireType.TheVariants.{A}
+use Rattle.share_types.specs.Sums.{word_sum, word_difference, word_product, total, Recombines}
+use Rattle.arithmetic_gmw.specs.Shares.{closed_share}
 use Rattle.arithmetic_gmw.specs.Laws.{Factors, IsTriple}
 use Rattle.arithmetic_gmw.proofs.Recombining.{product-recombines}
 use Rattle.mixed_circuit.specs.declared.circuit.Form.{Form}

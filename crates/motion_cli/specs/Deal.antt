@@ -2,8 +2,8 @@
 -- after another.
 use Rattle.std.specs.Prelude.{ℕ, ◌+◌, ◌*◌, List}
 use Rattle.mot_base.specs.Tape.{long_word_of_tape}
-use Rattle.share_types.specs.declared.MultTriple.{MultTriple}
-use Rattle.arithmetic_gmw.specs.Shares.{word_sum, word_difference, word_product}
+use Rattle.share_types.specs.declared.records.MultTriple.{MultTriple}
+use Rattle.share_types.specs.Sums.{word_sum, word_difference, word_product}
 
 -- where the words of a triple begin: behind the two words of the deal's id, the four of each party's
 -- offset, and the ten of each triple before it

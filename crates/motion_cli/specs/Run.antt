@@ -1,8 +1,9 @@
 -- The run of two parties on shares.
 use Rattle.std.specs.Prelude.{◌≡◌, ◌<◌, ℕ, ◌+◌, ◌-◌, nat_eq, if◌then◌else◌, List, [], ◌∷◌, take, drop, slice_get, slice_index, slice_index_or, Some}
 use Rattle.mot_base.specs.Tape.{derived_seed, share_of_tape}
-use Rattle.share_types.specs.declared.MultTriple.{MultTriple}
-use Rattle.arithmetic_gmw.specs.Shares.{word_sum, word_difference, opened_left, opened_right, closed_share}
+use Rattle.share_types.specs.declared.records.MultTriple.{MultTriple}
+use Rattle.share_types.specs.Sums.{word_sum, word_difference}
+use Rattle.arithmetic_gmw.specs.Shares.{opened_left, opened_right, closed_share}
 use Rattle.mixed_circuit.specs.declared.circuit.Form.{Form}
 use Rattle.mixed_circuit.specs.declared.circuit.Form.TheVariants.{InputA, AddA, SubA, MulA, Output}
 use Rattle.mixed_circuit.specs.Circuit.{Statement}

@@ -1,6 +1,6 @@
 ghost use Rattle.std.specs.Prelude.{◌≡◌, ◌<◌, ◌≤◌, [], ◌∷◌, length, map, IfOk};
 ghost use Rattle.arithmetic_gmw.specs.Laws.{IsTriple};
-ghost use Rattle.arithmetic_gmw.specs.Shares.{word_sum, word_difference, word_product};
+ghost use Rattle.share_types.specs.Sums.{word_sum, word_difference, word_product};
 ghost use Rattle.mixed_circuit.specs.Eval.{form_value, inputs_behind, evaluated};
 ghost use Rattle.motion_cli.specs.Run.{word_of_shares, count_inputs, inputs_taken, triples_of, IsReady, input_shares, each_by_itself, left_opened, right_opened, product_shares, form_shares, IsRun};
 

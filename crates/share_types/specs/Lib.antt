@@ -1,0 +1,5 @@
+pub mod BitLaws
+pub mod Bits
+pub mod Needs
+pub mod PartyLaws
+pub mod Sums

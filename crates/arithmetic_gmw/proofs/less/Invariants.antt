@@ -1,5 +1,5 @@
 use Rattle.std.proofs.Common.{◌≡◌, take}
-use Rattle.arithmetic_gmw.specs.Shares.{word_difference, total}
+use Rattle.share_types.specs.Sums.{word_difference, total}
 use Rattle.arithmetic_gmw.proofs.less.Given as goal
 
 abbrev pub invariant-loop-word : goal.invariant-loop-word

@@ -1,5 +1,5 @@
 use Rattle.std.proofs.Common.{◌∙◌, ap₂}
-use Rattle.arithmetic_gmw.specs.Shares.{word_sum}
+use Rattle.share_types.specs.Sums.{word_sum}
 use Rattle.motion_cli.proofs.Running.{product-word}
 use Rattle.motion_cli.proofs.run.product.Goals as goal
 

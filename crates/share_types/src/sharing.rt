@@ -1,0 +1,21 @@
+/// The ways in which parties share a wire.
+#[derive(Clone, Copy, Debug, PartialEq, Eq)]
+pub enum Sharing {
+    /// A sum of share words modulo 2^64: arithmetic GMW.
+    A,
+    /// An XOR of shares: Boolean GMW.
+    B,
+    /// BMR keys, with free XOR and point-and-permute.
+    Y,
+}
+
+/// How a wire is shared and, where it holds a vector, the vector's width.
+#[derive(Clone, Copy, Debug, PartialEq, Eq)]
+pub enum WireType {
+    /// A word modulo 2^64 as a sum of share words: arithmetic GMW.
+    A,
+    /// A vector of bits as an XOR of shares: Boolean GMW.
+    B(u8),
+    /// A vector of bits as BMR keys, with free XOR and point-and-permute.
+    Y(u8),
+}
