@@ -1,5 +1,8 @@
 //! Files and a sink in memory, with faults.
-use mot_base::{FileError, Files, MAX_FILE_LENGTH, MemFiles, MemSink, WriteFailed, write_all};
+use mot_base::{
+    FileError, Files, HostFiles, MAX_FILE_LENGTH, MemFiles, MemSink, Payload, WriteFailed,
+    write_all,
+};
 use std::alloc::{AllocError, Global};
 use std::test::Fail;
 
@@ -57,6 +60,57 @@ fn too_long_comes_before_a_fault(rt: HostRuntime) -> Result<(), Fail> {
     let mut files = MemFiles::new(names, contents, Vec::from_slice(alloc, &[1])?);
     let loaded = files.load(alloc, "long");
     assert_eq!(rt; loaded.err(), Some(FileError::TooLong));
+    Ok(())
+}
+
+// the name and the content of each store in turn, and its answer, where the second call fails
+static STORES: [(&str, &[u8], Result<(), FileError>); 4] = [
+    ("circuit", b"mixed 2", Ok(())),
+    ("empty", b"full", Err(FileError::Failed)),
+    ("new", b"", Ok(())),
+    ("new", b"newer", Ok(())),
+];
+
+static STORED: [(&str, Option<&[u8]>); 4] = [
+    ("circuit", Some(b"mixed 2")),
+    ("empty", Some(b"")),
+    ("new", Some(b"newer")),
+    ("missing", None),
+];
+
+#[test]
+fn a_store_puts_what_the_name_holds(rt: HostRuntime) -> Result<(), Fail> {
+    let mut files = shelf(rt.alloc(), &[2])?;
+    for (name, content, answer) in &STORES {
+        assert_eq!(rt; files.store(rt.alloc(), name, content), *answer, "{name}");
+    }
+    for (name, content) in &STORED {
+        assert_eq!(rt; files.get(name), *content, "{name}");
+    }
+    Ok(())
+}
+
+#[test]
+fn the_machine_gives_back_what_was_stored(rt: HostRuntime) -> Result<(), Fail> {
+    let alloc = rt.alloc();
+    let mut files = HostFiles::new(&rt);
+    assert_eq!(rt; files.load(alloc, "stored").err(), Some(FileError::Missing));
+    assert_eq!(rt; files.store(alloc, "stored", b"shares"), Ok(()));
+    assert_eq!(rt;
+        files.load(alloc, "stored")?.as_slice(),
+        b"shares".as_slice()
+    );
+    let nowhere = files.store(alloc, "no folder/stored", b"shares");
+    assert_eq!(rt; nowhere, Err(FileError::Failed));
+    std::fs::remove_file(&rt, "stored")?;
+    Ok(())
+}
+
+#[test]
+fn a_payload_is_copied(rt: HostRuntime) -> Result<(), Fail> {
+    let payload = Payload::new(Vec::from_slice(rt.alloc(), b"share")?);
+    assert_eq!(rt; payload.copy(rt.alloc())?.bytes(), payload.bytes());
+    assert_eq!(rt; payload.bytes(), b"share".as_slice());
     Ok(())
 }
 

@@ -1,7 +1,7 @@
 //! Shares of words, by hand and from the tape of the seed of 32 zero bytes, and vectors of bits.
 use arithmetic_gmw::{add, mul_close, mul_const, mul_open, share_out, sub};
-use mot_base::{Party, Seed, tape_share};
-use share_types::{Bits, MultTriple};
+use mot_base::{Party, Seed, derive, tape_share};
+use share_types::{Bits, Kind, MultTriple, Needs, TooFew};
 use std::test::Fail;
 
 const SEED: Seed = Seed([0; 32]);
@@ -62,6 +62,44 @@ fn a_value_is_shared_among_eight(rt: HostRuntime) -> Result<(), Fail> {
     Ok(())
 }
 
+// the triple that the dealer's tape of the seed of 32 zero bytes gives first
+const DEALT_FIRST: MultTriple = MultTriple {
+    a: 0x99d2379c2e837805,
+    b: 0x1c2add9a53828a36,
+    c: 0x1b8763727dc0cd49,
+};
+
+const DEALT_SECOND: MultTriple = MultTriple {
+    a: 0x8b80c6bf81f65fb5,
+    b: 0x1f2d56ba401f8689,
+    c: 0x376253001c56c67d,
+};
+
+#[test]
+fn six_times_seven_is_sent_as_recorded(rt: HostRuntime) -> Result<(), Fail> {
+    let alloc = rt.alloc();
+    let (first_seed, second_seed) = (derive(&SEED, 0), derive(&SEED, 1));
+    let six = share_out(alloc, 6, &first_seed, 0, 0, Party(0), 2)?;
+    let seven = share_out(alloc, 7, &second_seed, 0, 1, Party(1), 2)?;
+    let ([x, sent_x], [sent_y, y]) = (six.as_slice(), seven.as_slice()) else {
+        panic!(rt; "a party has no share");
+    };
+    let (x, sent_x, sent_y, y) = (*x, *sent_x, *sent_y, *y);
+    assert_eq!(rt; (sent_x, sent_y), (0xa052138367b59734, 0x4c9efaee32a7e0b4));
+    let first = mul_open(x, sent_y, DEALT_FIRST);
+    let second = mul_open(sent_x, y, DEALT_SECOND);
+    assert_eq!(rt; first, (0xc5dbb4e069c6f0cd, 0x30741d53df25567e));
+    assert_eq!(rt; second, (0x14d14cc3e5bf377f, 0x9433ae578d3898ca));
+    let (d, e) = (add(first.0, second.0), add(first.1, second.1));
+    let told = (
+        mul_close(Party(0), DEALT_FIRST, d, e),
+        mul_close(Party(1), DEALT_SECOND, d, e),
+    );
+    assert_eq!(rt; told, (0x255183ed892bfb19, 0xdaae7c1276d40511));
+    assert_eq!(rt; add(told.0, told.1), 42);
+    Ok(())
+}
+
 // a number, a width, and whether there is such a vector
 static VECTORS: [(u64, u8, bool); 13] = [
     (0, 0, false),
@@ -89,5 +127,123 @@ fn bits_have_one_to_sixty_four_places(rt: HostRuntime) {
             None
         };
         assert_eq!(rt; seen, wanted, "{word} of {width}");
+    }
+}
+
+/// The number and the width of a vector.
+fn seen(bits: Bits) -> (u64, u8) {
+    (bits.word, bits.width)
+}
+
+// a vector and its other values bit by bit
+static OTHERS: [(u64, u8, u64); 5] = [
+    (0, 1, 1),
+    (1, 1, 0),
+    (5, 3, 2),
+    (0, 64, 18446744073709551615),
+    (9223372036854775809, 64, 9223372036854775806),
+];
+
+#[test]
+fn not_turns_each_bit_of_the_width(rt: HostRuntime) {
+    for (word, width, other) in &OTHERS {
+        let found = Bits::new(*word, *width).map(|bits| seen(bits.not()));
+        assert_eq!(rt; found, Some((*other, *width)), "{word} of {width}");
+    }
+}
+
+// a vector, where a slice begins, its width, and its number
+static SLICES: [(u64, u8, u8, u8, u64); 6] = [
+    (0b1101, 4, 0, 1, 1),
+    (0b1101, 4, 1, 2, 0b10),
+    (0b1101, 4, 3, 1, 1),
+    (18446744073709551614, 64, 0, 64, 18446744073709551614),
+    (9223372036854775808, 64, 63, 1, 1),
+    (9223372036854775809, 64, 0, 63, 1),
+];
+
+#[test]
+fn slices_reach_both_ends(rt: HostRuntime) {
+    for (word, width, at, count, number) in &SLICES {
+        assert!(rt; *count >= 1 && *at <= 64 && *count <= 64);
+        let Some(bits) = Bits::new(*word, *width) else {
+            panic!(rt; "no vector");
+        };
+        assert!(rt; *at + *count <= bits.width);
+        assert_eq!(rt;
+            seen(bits.slice(*at, *count)),
+            (*number, *count),
+            "{word} from {at} on"
+        );
+    }
+}
+
+// a low part, a high part, and both joined
+static JOINS: [((u64, u8), (u64, u8), (u64, u8)); 4] = [
+    ((1, 1), (0, 1), (1, 2)),
+    ((0, 1), (1, 1), (2, 2)),
+    (
+        (1, 1),
+        (9223372036854775807, 63),
+        (18446744073709551615, 64),
+    ),
+    ((5, 63), (1, 1), (9223372036854775813, 64)),
+];
+
+#[test]
+fn joins_have_the_first_vector_low(rt: HostRuntime) {
+    for (low, high, joined) in &JOINS {
+        let (Some(low), Some(high)) = (Bits::new(low.0, low.1), Bits::new(high.0, high.1)) else {
+            panic!(rt; "no vector");
+        };
+        assert!(rt; low.width <= 64 && high.width <= 64);
+        assert!(rt; low.width + high.width <= 64);
+        assert_eq!(rt; seen(low.join(high)), *joined);
+    }
+}
+
+#[test]
+fn xor_and_and_go_bit_by_bit(rt: HostRuntime) {
+    let (Some(x), Some(y)) = (Bits::new(0b1100, 4), Bits::new(0b1010, 4)) else {
+        panic!(rt; "no vector");
+    };
+    assert!(rt; x.width == y.width);
+    assert_eq!(rt; seen(x.xor(y)), (0b0110, 4));
+    assert_eq!(rt; seen(x.and(y)), (0b1000, 4));
+}
+
+const STOCK: Needs = Needs {
+    mult: 1,
+    bit: 2,
+    shared: 3,
+    key: 4,
+};
+
+// what is needed of each kind, and the first kind of which there are too few, with what was asked and the stock
+static NEEDED: [([u32; 4], Option<(Kind, u32, u32)>); 6] = [
+    ([0, 0, 0, 0], None),
+    ([1, 2, 3, 4], None),
+    ([2, 3, 4, 5], Some((Kind::Mult, 2, 1))),
+    ([1, 3, 4, 0], Some((Kind::Bit, 3, 2))),
+    ([0, 0, 4, 9], Some((Kind::Shared, 4, 3))),
+    ([1, 2, 3, 4294967295], Some((Kind::Key, 4294967295, 4))),
+];
+
+#[test]
+fn the_first_kind_that_is_short_is_named(rt: HostRuntime) {
+    for ([mult, bit, shared, key], few) in &NEEDED {
+        let needs = Needs {
+            mult: *mult,
+            bit: *bit,
+            shared: *shared,
+            key: *key,
+        };
+        let wanted = few.map(|(kind, asked, stock)| TooFew {
+            kind,
+            before: 0,
+            asked,
+            stock,
+        });
+        assert_eq!(rt; needs.within(&STOCK).err(), wanted);
     }
 }

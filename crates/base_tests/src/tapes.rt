@@ -1,6 +1,6 @@
 //! The tape of the seed of 32 zero bytes.
 use hex::FromHex;
-use mot_base::{Party, Seed, derive, tape_share, tape_word};
+use mot_base::{Party, Seed, TapeReader, derive, tape_share, tape_shares, tape_word};
 use std::test::Fail;
 
 const SEED: Seed = Seed([0; 32]);
@@ -67,11 +67,42 @@ fn words_are_those_of_chacha20(rt: HostRuntime) {
     }
 }
 
+// the number of a zero key, whose four words stand at four times that place, and its 128 bits but the least
+static KEYS: [(u64, u128); 4] = [
+    (0, 0x28bd8653e56a5d40903df1a0ade0b876),
+    (1, 0xc70d778bccef36a81aed8da0b819d2bc),
+    (7, 0x6f4d794b1f0ae1ac45fb0a51281fed30),
+    (4294967295, 0x02654b14331df3faa5f7518ea14c5720),
+];
+
+#[test]
+fn four_words_that_stand_together_make_a_key(rt: HostRuntime) {
+    for (number, key) in &KEYS {
+        assert!(rt; *number < 4294967296);
+        let found = TapeReader::new(&SEED, 4 * *number).key();
+        assert_eq!(rt; found & !1, *key, "number {number}");
+    }
+}
+
+#[test]
+fn a_reader_goes_on_behind_what_it_read(rt: HostRuntime) {
+    let mut tape = TapeReader::new(&SEED, 0);
+    assert_eq!(rt; (tape.word(), tape.word()), (2917185654, 2419978656));
+    let mut shares = TapeReader::new(&SEED, 281474976710656);
+    let first = shares.long_word();
+    assert_eq!(rt;
+        (first, shares.long_word()),
+        (tape_share(&SEED, 0, 0, Party(0)), 4106339505150325519)
+    );
+}
+
 #[test]
 fn share_words_stand_at_their_places(rt: HostRuntime) {
     for (session, gate, to, share) in &SHARES {
         assert!(rt; *session < 65536 && *gate < 4194304 && *to < 8);
         let found = tape_share(&SEED, *session, *gate, Party(*to));
         assert_eq!(rt; found, *share, "session {session}, gate {gate}, to {to}");
+        let all = tape_shares(&SEED, *session, *gate);
+        assert_eq!(rt; all.get(usize::from(*to)), Some(share));
     }
 }

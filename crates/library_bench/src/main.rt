@@ -1,0 +1,67 @@
+//! Times calls of the libraries.
+//!
+//!     library_bench SIZE [WORK ..]
+//!
+//! Each work, or each of those that are named, is done that many times. What came of it goes to the
+//! output, one line a work, and how long it took to the error output.
+#![tactic(auto)]
+
+mod shares;
+mod tapes;
+
+use anyhow::{Error, anyhow};
+use std::alloc::Global;
+use std::env;
+use std::time::Instant;
+
+/// What can be done, by name. A work is given how many times it is done, and gives a number that shows it.
+static WORKS: [(&str, Work); 3] = [
+    ("words", Work::Words),
+    ("shares-of-two", Work::SharesOfTwo),
+    ("shares-of-eight", Work::SharesOfEight),
+];
+
+#[derive(Clone, Copy)]
+enum Work {
+    /// Words are read from a tape, one after another.
+    Words,
+    /// A value is shared among two parties, at one gate after another.
+    SharesOfTwo,
+    /// The same among eight.
+    SharesOfEight,
+}
+
+impl Work {
+    /// Does the work that many times.
+    fn run(self, alloc: Global, size: u32) -> Result<u64, Error> {
+        match self {
+            Work::Words => Ok(tapes::read_words(size)),
+            Work::SharesOfTwo => Ok(shares::share_among(alloc, size, 2)?),
+            Work::SharesOfEight => Ok(shares::share_among(alloc, size, 8)?),
+        }
+    }
+}
+
+fn main(rt: HostRuntime) -> Result<(), Error> {
+    let words: Vec<String> = env::args(&rt)?.skip(1).collect(rt.alloc())?;
+    let Some((size, names)) = words.split_first() else {
+        return Err(anyhow!("the words are SIZE [WORK ..]"));
+    };
+    let size: u32 = size.parse()?;
+    for (name, work) in &WORKS {
+        if names.is_empty() || names.iter().any(|asked| asked.as_str() == *name) {
+            time(&rt, name, *work, size)?;
+        }
+    }
+    Ok(())
+}
+
+/// Does a work, and says what came of it and how long it took.
+fn time(rt: &HostRuntime, name: &str, work: Work, size: u32) -> Result<(), Error> {
+    let start = Instant::now(rt)?;
+    let outcome = work.run(rt.alloc(), size)?;
+    let time = start.elapsed(rt)?;
+    println!(rt; "{name} {size} {outcome}")?;
+    eprintln!(rt; "{name} {size}: {} ms", time.as_millis())?;
+    Ok(())
+}
