@@ -4,7 +4,7 @@ use mot_base::{Seed, TapeReader};
 pub(crate) fn read_words(count: u32) -> u64 {
     let mut tape = TapeReader::new(&Seed([0; 32]), 0);
     let mut sum = 0u64;
-    for _ in 0..count {
+    for _at in 0..count {
         sum = sum.wrapping_add(u64::from(tape.word()));
     }
     sum
