@@ -1,7 +1,7 @@
-//! Shares of words, by hand and from the tape of the seed of 32 zero bytes, and vectors of bits.
+//! Shares of words, by hand and from the tape of the seed of 32 zero bytes, and counts of correlations.
 use arithmetic_gmw::{add, mul_close, mul_const, mul_open, share_out, sub};
 use mot_base::{Party, Seed, derive, tape_share};
-use share_types::{Bits, Kind, MultTriple, Needs, TooFew};
+use share_types::{Kind, MultTriple, Needs, TooFew};
 use std::test::Fail;
 
 const SEED: Seed = Seed([0; 32]);
@@ -98,118 +98,6 @@ fn six_times_seven_is_sent_as_recorded(rt: HostRuntime) -> Result<(), Fail> {
     assert_eq!(rt; told, (0x255183ed892bfb19, 0xdaae7c1276d40511));
     assert_eq!(rt; add(told.0, told.1), 42);
     Ok(())
-}
-
-// a number, a width, and whether there is such a vector
-static VECTORS: [(u64, u8, bool); 13] = [
-    (0, 0, false),
-    (0, 1, true),
-    (1, 1, true),
-    (2, 1, false),
-    (255, 8, true),
-    (256, 8, false),
-    (9223372036854775807, 63, true),
-    (9223372036854775808, 63, false),
-    (9223372036854775808, 64, true),
-    (18446744073709551615, 64, true),
-    (0, 65, false),
-    (0, 128, false),
-    (0, 255, false),
-];
-
-#[test]
-fn bits_have_one_to_sixty_four_places(rt: HostRuntime) {
-    for (word, width, is_found) in &VECTORS {
-        let seen = Bits::new(*word, *width).map(|bits| (bits.word, bits.width));
-        let wanted = if *is_found {
-            Some((*word, *width))
-        } else {
-            None
-        };
-        assert_eq!(rt; seen, wanted, "{word} of {width}");
-    }
-}
-
-/// The number and the width of a vector.
-fn seen(bits: Bits) -> (u64, u8) {
-    (bits.word, bits.width)
-}
-
-// a vector and its other values bit by bit
-static OTHERS: [(u64, u8, u64); 5] = [
-    (0, 1, 1),
-    (1, 1, 0),
-    (5, 3, 2),
-    (0, 64, 18446744073709551615),
-    (9223372036854775809, 64, 9223372036854775806),
-];
-
-#[test]
-fn not_turns_each_bit_of_the_width(rt: HostRuntime) {
-    for (word, width, other) in &OTHERS {
-        let found = Bits::new(*word, *width).map(|bits| seen(bits.not()));
-        assert_eq!(rt; found, Some((*other, *width)), "{word} of {width}");
-    }
-}
-
-// a vector, where a slice begins, its width, and its number
-static SLICES: [(u64, u8, u8, u8, u64); 6] = [
-    (0b1101, 4, 0, 1, 1),
-    (0b1101, 4, 1, 2, 0b10),
-    (0b1101, 4, 3, 1, 1),
-    (18446744073709551614, 64, 0, 64, 18446744073709551614),
-    (9223372036854775808, 64, 63, 1, 1),
-    (9223372036854775809, 64, 0, 63, 1),
-];
-
-#[test]
-fn slices_reach_both_ends(rt: HostRuntime) {
-    for (word, width, at, count, number) in &SLICES {
-        assert!(rt; *count >= 1 && *at <= 64 && *count <= 64);
-        let Some(bits) = Bits::new(*word, *width) else {
-            panic!(rt; "no vector");
-        };
-        assert!(rt; *at + *count <= bits.width);
-        assert_eq!(rt;
-            seen(bits.slice(*at, *count)),
-            (*number, *count),
-            "{word} from {at} on"
-        );
-    }
-}
-
-// a low part, a high part, and both joined
-static JOINS: [((u64, u8), (u64, u8), (u64, u8)); 4] = [
-    ((1, 1), (0, 1), (1, 2)),
-    ((0, 1), (1, 1), (2, 2)),
-    (
-        (1, 1),
-        (9223372036854775807, 63),
-        (18446744073709551615, 64),
-    ),
-    ((5, 63), (1, 1), (9223372036854775813, 64)),
-];
-
-#[test]
-fn joins_have_the_first_vector_low(rt: HostRuntime) {
-    for (low, high, joined) in &JOINS {
-        let (Some(low), Some(high)) = (Bits::new(low.0, low.1), Bits::new(high.0, high.1)) else {
-            panic!(rt; "no vector");
-        };
-        assert!(rt; low.width <= 64 && high.width <= 64);
-        assert!(rt; low.width + high.width <= 64);
-        assert_eq!(rt; seen(low.join(high)), *joined);
-    }
-}
-
-#[test]
-fn xor_and_and_go_bit_by_bit(rt: HostRuntime) {
-    let (Some(x), Some(y)) = (Bits::new(0b1100, 4), Bits::new(0b1010, 4)) else {
-        panic!(rt; "no vector");
-    };
-    assert!(rt; x.width == y.width);
-    assert_eq!(rt; seen(x.xor(y)), (0b0110, 4));
-    assert_eq!(rt; seen(x.and(y)), (0b1000, 4));
 }
 
 const STOCK: Needs = Needs {

@@ -1,10 +1,10 @@
 -- What parties have, as a list and by the party's number.
-use Rattle.std.proofs.Common.{◌≡◌, ℕ, zero, suc, ◌+◌, List, [], ◌∷◌, ◌++◌, length, map, refl, sym, ap, ap₂, ◌∙◌, arith, length-append}
+use Rattle.std.proofs.Common.{◌≡◌, ℕ, zero, suc, ◌+◌, List, [], ◌∷◌, ◌++◌, length, map, refl, sym, ap, ap₂, ◌∙◌, ◌<◌, arith, add-one, length-append}
 use Rattle.std.specs.Prelude.{bit_xor}
 use Rattle.std.specs.Int.Bits.{xor_assoc, xor_zero_l}
 use Rattle.std.proofs.lemmas.Nat.{xor_comm}
 use Rattle.std.proofs.lemmas.List.{map-append}
-use Rattle.share_types.specs.Sums.{total, xor_total, each, by_number, by_party}
+use Rattle.share_types.specs.Sums.{total, xor_total, sum_to, xor_to, each, by_number, by_party}
 use Rattle.share_types.specs.PartyLaws.{TotalIsSum, XorTotalIsXor}
 
 pub total-append : (xs ys : List ℕ) → total (xs ++ ys) ≡ total xs + total ys
@@ -36,6 +36,27 @@ length-each zero f = refl
 length-each (suc n) f =
     let first = length-each n f in
     length-append (each n f) (f n ∷ []) ∙ omega arith
+
+-- one party more
+pub sum_to_more : (n : ℕ) (f : ℕ → ℕ) → sum_to (n + 1) f ≡ sum_to n f + f n
+sum_to_more n f = ap (λ k. sum_to k f) (add-one n)
+
+pub xor_to_more : (n : ℕ) (f : ℕ → ℕ) → xor_to (n + 1) f ≡ bit_xor (xor_to n f) (f n)
+xor_to_more n f = ap (λ k. xor_to k f) (add-one n)
+
+pub each_more : {X : Type 0} (n : ℕ) (f : ℕ → X) → each (n + 1) f ≡ each n f ++ f n ∷ []
+each_more n f = ap (λ k. each k f) (add-one n)
+
+-- parties that have the same at each number below theirs
+pub sum_to_same : (n : ℕ) (f g : ℕ → ℕ) → ((party : ℕ) → party < n → f party ≡ g party) → sum_to n f ≡ sum_to n g
+sum_to_same zero f g same = refl
+sum_to_same (suc n) f g same =
+    ap₂ (λ (a b : ℕ). a + b) (sum_to_same n f g (λ party h. same party (omega arith))) (same n (omega arith))
+
+pub xor_to_same : (n : ℕ) (f g : ℕ → ℕ) → ((party : ℕ) → party < n → f party ≡ g party) → xor_to n f ≡ xor_to n g
+xor_to_same zero f g same = refl
+xor_to_same (suc n) f g same =
+    ap₂ bit_xor (xor_to_same n f g (λ party h. same party (omega arith))) (same n (omega arith))
 
 -- what is made of each party's item
 pub map-each : {X Y : Type 0} (f : X → Y) (n : ℕ) (g : ℕ → X) → map f (each n g) ≡ each n (λ party. f (g party))

@@ -1,0 +1,2 @@
+pub mod Recombining
+mod Sharing
