@@ -10,3 +10,5 @@ mod outside;
 mod shares;
 #[cfg(test)]
 mod tapes;
+#[cfg(test)]
+mod turns;

@@ -8,6 +8,7 @@
 
 mod shares;
 mod tapes;
+mod turns;
 
 use anyhow::{Error, anyhow};
 use std::alloc::Global;
@@ -15,10 +16,12 @@ use std::env;
 use std::time::Instant;
 
 /// What can be done, by name. A work is given how many times it is done, and gives a number that shows it.
-static WORKS: [(&str, Work); 3] = [
+static WORKS: [(&str, Work); 5] = [
     ("words", Work::Words),
     ("shares-of-two", Work::SharesOfTwo),
     ("shares-of-eight", Work::SharesOfEight),
+    ("graph", Work::Graph),
+    ("drain", Work::Drain),
 ];
 
 #[derive(Clone, Copy)]
@@ -29,6 +32,10 @@ enum Work {
     SharesOfTwo,
     /// The same among eight.
     SharesOfEight,
+    /// A graph of so many items and twice as many edges is made.
+    Graph,
+    /// The same graph is made, and its items are turned by a work that only counts.
+    Drain,
 }
 
 impl Work {
@@ -38,6 +45,8 @@ impl Work {
             Work::Words => Ok(tapes::read_words(size)),
             Work::SharesOfTwo => Ok(shares::share_among(alloc, size, 2)?),
             Work::SharesOfEight => Ok(shares::share_among(alloc, size, 8)?),
+            Work::Graph => Ok(turns::make_graph(alloc, size)?),
+            Work::Drain => Ok(turns::drain_graph(alloc, size)?),
         }
     }
 }
