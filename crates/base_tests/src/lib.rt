@@ -5,6 +5,10 @@
 #[cfg(test)]
 mod bits;
 #[cfg(test)]
+mod framing;
+#[cfg(test)]
+mod inbox;
+#[cfg(test)]
 mod outside;
 #[cfg(test)]
 mod shares;

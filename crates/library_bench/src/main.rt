@@ -6,6 +6,7 @@
 //! output, one line a work, and how long it took to the error output.
 #![tactic(auto)]
 
+mod messages;
 mod shares;
 mod tapes;
 mod turns;
@@ -16,12 +17,16 @@ use std::env;
 use std::time::Instant;
 
 /// What can be done, by name. A work is given how many times it is done, and gives a number that shows it.
-static WORKS: [(&str, Work); 5] = [
+static WORKS: [(&str, Work); 9] = [
     ("words", Work::Words),
     ("shares-of-two", Work::SharesOfTwo),
     ("shares-of-eight", Work::SharesOfEight),
     ("graph", Work::Graph),
     ("drain", Work::Drain),
+    ("messages", Work::Messages),
+    ("frames-by-1", Work::FramesBy1),
+    ("frames-by-1448", Work::FramesBy1448),
+    ("frames-by-65536", Work::FramesBy65536),
 ];
 
 #[derive(Clone, Copy)]
@@ -36,6 +41,14 @@ enum Work {
     Graph,
     /// The same graph is made, and its items are turned by a work that only counts.
     Drain,
+    /// Messages of 16 bytes are written, read from pieces of 4,096 bytes and delivered.
+    Messages,
+    /// Messages of 16 bytes are written, and read from pieces of 1 byte.
+    FramesBy1,
+    /// The same from pieces of 1,448 bytes.
+    FramesBy1448,
+    /// The same from pieces of 65,536 bytes.
+    FramesBy65536,
 }
 
 impl Work {
@@ -47,6 +60,10 @@ impl Work {
             Work::SharesOfEight => Ok(shares::share_among(alloc, size, 8)?),
             Work::Graph => Ok(turns::make_graph(alloc, size)?),
             Work::Drain => Ok(turns::drain_graph(alloc, size)?),
+            Work::Messages => Ok(messages::deliver_all(alloc, size)?),
+            Work::FramesBy1 => Ok(messages::read_in_pieces(alloc, size, 1)?),
+            Work::FramesBy1448 => Ok(messages::read_in_pieces(alloc, size, 1448)?),
+            Work::FramesBy65536 => Ok(messages::read_in_pieces(alloc, size, 65_536)?),
         }
     }
 }

@@ -1,0 +1,5 @@
+pub mod Fit
+pub mod Inbox
+pub mod Kept
+pub mod Runs
+pub mod Slots
