@@ -1,0 +1,243 @@
+-- What the steps of the code are to the functions that they compute.
+use Rattle.std.proofs.Common.{◌≡◌, ◌≢◌, ℕ, zero, suc, ◌<◌, ◌≤◌, ◌+◌, ◌==◌, Bool, true, false, List, [], ◌∷◌, ◌++◌, length, map, drop, take, get_or, Some, None, Option, option_map, option_and_then, is_some, refl, sym, ◌∙◌, ap, ap₂, subst, inl, inr, arith, Bor, String, string_bytes}
+use Rattle.std.specs.Prelude.{if◌then◌else◌, ◌⊎◌, bytes_eq, codes}
+use Rattle.std.specs.Option.{option_copied, option_or, MatchOption}
+use Rattle.std.specs.Str.Pattern.{FindsTextPrefix, StripsPrefix}
+use Rattle.std.proofs.lemmas.List.{append_assoc, append-nil, map-append, drop_more, take_more, drop_all}
+use Rattle.std.proofs.lemmas.Bool.Decides.{nat_tests}
+use Rattle.std.specs.Prelude.{◌&&◌, not, nat_le, ◌^◌, Result, Ok, Err}
+use Rattle.std.specs.Result.{result_ok, OkIff}
+use Rattle.std.specs.Char.{is_digit, digit_value}
+use Rattle.std.specs.List.{list_all}
+use Rattle.std.specs.Str.Parse.{digits_value, AllDigits, ParsesUnsigned, IsNumeral}
+use Rattle.std.proofs.lemmas.Str.Parse.{without_leading_plus_none}
+use Rattle.cli_words.specs.Table.{Text, is_empty, are_digits, number_in}
+use Rattle.cli_words.specs.Grammar.{Piece, option, word, words_of, texts}
+use Rattle.cli_words.specs.Pass.{rest_after, rest_spelling, is_plain, option_step, first_step, Next, step, begun, at_end, cut, referents, piece_of, pieces_of}
+use Rattle.cli_words.specs.declared.pass.Piece as declared
+use Rattle.cli_words.specs.declared.pass.State.{State}
+use Rattle.cli_words.proofs.Spelling.{after_is, map_or}
+use Rattle.cli_words.specs.declared.table.OptionName.{OptionName}
+use Rattle.cli_words.specs.declared.table.OptionName.TheVariants.{As, Parties, Dealer}
+use Rattle.cli_words.specs.declared.pass.State.TheVariants.{Between, Awaiting, Behind}
+use Rattle.cli_words.proofs.Cutting.{cut_end, cut_step}
+
+abbrev pub as_list : Option Text → List Text
+as_list None = []
+as_list (Some v) = v ∷ []
+
+-- the values that were found, and those to come, are all
+pub record IsGivenSoFar (takes : Bool) (all : List Text) (found : Option Text) (more : List Text) : Type 0 where
+  pub are : all ≡ as_list found ++ more
+  pub taken : is_some found ≡ true → takes ≡ true
+
+-- What is stripped of a word.
+
+after_to : (p r : Text) → rest_after p (p ++ r) ≡ Some r
+after_to [] r = refl
+after_to (c ∷ cs) r = rw (same c) (after_to cs r)
+  where
+    same : (c : ℕ) → c == c ≡ true
+    same c = grind (arith, nat_tests)
+
+none_after : (p w : Text) → ((rest : Text) → w ≢ p ++ rest) → rest_after p w ≡ None
+none_after p w h = go (rest_after p w) (λ r. after_is p w r)
+  where
+    go : (o : Option Text) → ((r : Text) → o ≡ Some r → w ≡ p ++ r) → o ≡ None
+    go None k = refl
+    go (Some r) k = absurd (h r (k r refl))
+
+pub stripped : (p w : Text) (r : Option (Bor Text))
+    → MatchOption r ((rest : Text) → w ≢ p ++ rest) (λ x. StripsPrefix (FindsTextPrefix p) w x.now)
+    → option_copied r ≡ rest_after p w
+stripped p w None h = sym (none_after p w h)
+stripped p w (Some x) (n, found, is, size) =
+    let whole : w ≡ p ++ x.now = found.1 ∙ ap (λ (t : Text). p ++ t) (sym is) in
+    let P : Text → Type 0 = λ t. Some x.now ≡ rest_after p t in
+    subst P (sym whole) (sym (after_to p x.now))
+
+pub no_value : (rest : Text) → is_empty rest ≡ false → ((r : Text) → rest ≢ 61 ∷ r) → None ≡ rest_spelling rest
+no_value [] e h = cc
+no_value (c ∷ []) e h = refl
+no_value (c ∷ v ∷ vs) e h = go (c == 61) (λ k. grind (arith, nat_tests))
+  where
+    go : (b : Bool) → (b ≡ true → c ≡ 61) → None ≡ (if b then Some (Some (v ∷ vs)) else None)
+    go false k = refl
+    go true k = absurd (h (v ∷ vs) (ap (λ (d : ℕ). d ∷ v ∷ vs) (k refl)))
+
+pub unstripped : (w : Text) (r : Option (Bor Text))
+    → MatchOption r ((rest : Text) → w ≢ 61 ∷ rest) (λ x. w ≡ 61 ∷ x.now) → r ≡ None → is_empty w ≡ false
+    → None ≡ rest_spelling w
+unstripped w None h n e = no_value w e h
+unstripped w (Some x) h n e = cc
+
+pub one_of : {X Y : Type 0} (f : X → Y) (a b d ab r : Option X) (fa fb fd : Option Y) → ab ≡ option_or a b
+    → r ≡ option_or ab d → option_map f a ≡ fa → option_map f b ≡ fb → option_map f d ≡ fd
+    → option_map f r ≡ option_or (option_or fa fb) fd
+one_of f a b d ab r fa fb fd e k ea eb ed =
+    ap (option_map f) k ∙ map_or f ab d
+    ∙ ap₂ option_or (ap (option_map f) e ∙ map_or f a b ∙ ap₂ option_or ea eb) ed
+
+pub other_word : (w : Text) (r : Option Next) → is_plain w ≡ false → bytes_eq w (codes "--") ≡ false
+    → r ≡ option_or (option_or (option_step As w) (option_step Parties w)) (option_step Dealer w)
+    → r ≡ first_step w
+other_word w r e k h = rw (e, k) h
+
+-- The pass.
+
+pub record IsCutTo (whole : Option (List Piece)) (so_far : List Piece) (state : State) (rest : List Text) : Type 0 where
+  pub is : whole ≡ option_map (λ (more : List Piece). so_far ++ more) (cut state rest)
+
+added : (so_far : List Piece) (p : Option Piece) (o : Option (List Piece))
+    → option_map (λ (more : List Piece). so_far ++ more) (option_map (begun p) o)
+    ≡ option_map (λ (more : List Piece). (so_far ++ begun p []) ++ more) o
+added so_far p None = refl
+added so_far None (Some more) = ap (λ (x : List Piece). Some (x ++ more)) (sym (append-nil so_far))
+added so_far (Some p) (Some more) = ap (λ (x : List Piece). Some x) (sym (append_assoc so_far (p ∷ []) more))
+
+pub cut_next : {whole : Option (List Piece)} {so_far : List Piece} {s : State} {w : Text} {rest : List Text} (n : Next)
+    → IsCutTo whole so_far s (w ∷ rest) → step s w ≡ Some n
+    → IsCutTo whole (so_far ++ begun n.piece []) n.state rest
+cut_next {whole} {so_far} {s} {w} {rest} n h e =
+    let one : cut s (w ∷ rest) ≡ option_map (begun n.piece) (cut n.state rest) =
+    cut_step s w rest ∙ ap (option_and_then (λ (m : Next). option_map (begun m.piece) (cut m.state rest))) e in
+    record { is = h.is ∙ ap (option_map (λ (more : List Piece). so_far ++ more)) one ∙ added so_far n.piece (cut n.state rest) }
+
+pub cut_stops : {whole : Option (List Piece)} {so_far : List Piece} {s : State} {w : Text} {rest : List Text}
+    → IsCutTo whole so_far s (w ∷ rest) → step s w ≡ None → whole ≡ None
+cut_stops {whole} {so_far} {s} {w} {rest} h e =
+    let one : cut s (w ∷ rest) ≡ None =
+    cut_step s w rest ∙ ap (option_and_then (λ (m : Next). option_map (begun m.piece) (cut m.state rest))) e in
+    h.is ∙ ap (option_map (λ (more : List Piece). so_far ++ more)) one
+
+pub cut_done : {whole : Option (List Piece)} {so_far : List Piece} {s : State} {rest : List Text}
+    → IsCutTo whole so_far s rest → rest ≡ [] → (s ≡ Between) ⊎ (s ≡ Behind) → whole ≡ Some so_far
+cut_done {whole} {so_far} {s} {rest} h e k =
+    let one : cut s rest ≡ at_end s = ap (λ (x : List Text). cut s x) e ∙ cut_end s in
+    h.is ∙ ap (option_map (λ (more : List Piece). so_far ++ more)) (one ∙ ended s k) ∙ ap (λ (x : List Piece). Some x) (append-nil so_far)
+  where
+    ended : (s : State) → (s ≡ Between) ⊎ (s ≡ Behind) → at_end s ≡ Some []
+    ended s (inl b) = ap at_end b
+    ended s (inr b) = ap at_end b
+
+pub cut_waits : {whole : Option (List Piece)} {so_far : List Piece} {s : State} {rest : List Text} (o : OptionName)
+    → IsCutTo whole so_far s rest → rest ≡ [] → s ≡ Awaiting o → whole ≡ None
+cut_waits {whole} {so_far} {s} {rest} o h e k =
+    let one : cut s rest ≡ None = ap (λ (x : List Text). cut s x) e ∙ cut_end s ∙ ap at_end k in
+    h.is ∙ ap (option_map (λ (more : List Piece). so_far ++ more)) one
+
+pub texts_left : {A : Type 0} (words : List (String A)) (at : ℕ) (d : String A) → at < length words
+    → texts (drop at words) ≡ string_bytes (get_or words at d) ∷ texts (drop (at + 1) words)
+texts_left words at d h = ap (λ (x : List (String _)). texts x) (drop_more words at d h)
+
+pub none_left : {A : Type 0} (words : List (String A)) (at : ℕ) → length words ≤ at → texts (drop at words) ≡ []
+none_left words at h = ap (λ (x : List (String _)). texts x) (drop_all at words h)
+
+-- The positional words.
+
+one_word : (p : Piece) (rest : List Piece) → words_of (p ∷ rest) ≡ words_of (p ∷ []) ++ words_of rest
+one_word (option o v) rest = refl
+one_word (word w) rest = refl
+
+pub words_next : (ps : List declared.Piece) (at : ℕ) (d : declared.Piece) (so_far new : List Text) → at < length ps
+    → words_of (pieces_of ps) ≡ so_far ++ words_of (pieces_of (drop at ps))
+    → new ≡ so_far ++ words_of (piece_of (get_or ps at d) ∷ [])
+    → words_of (pieces_of ps) ≡ new ++ words_of (pieces_of (drop (at + 1) ps))
+words_next ps at d so_far new within h e =
+    let left : words_of (pieces_of (drop at ps)) ≡ words_of (piece_of (get_or ps at d) ∷ []) ++ words_of (pieces_of (drop (at + 1) ps)) =
+    ap (λ (x : List declared.Piece). words_of (pieces_of x)) (drop_more ps at d within) ∙ one_word (piece_of (get_or ps at d)) (pieces_of (drop (at + 1) ps)) in
+    h ∙ ap (λ (x : List Text). so_far ++ x) left ∙ sym (append_assoc so_far _ _)
+    ∙ ap (λ (x : List Text). x ++ words_of (pieces_of (drop (at + 1) ps))) (sym e)
+
+-- The canonical words.
+
+pub pushed_word : {A : Type 0} (first : List Text) (old new : List (String A)) (s : String A) (more : List (Bor Text)) (at : ℕ) (d : Bor Text)
+    → at < length more → texts old ≡ first ++ referents (take at more) → new ≡ old ++ s ∷ []
+    → string_bytes s ≡ (get_or more at d).now → texts new ≡ first ++ referents (take (at + 1) more)
+pushed_word first old new s more at d within h e k =
+    let one : texts new ≡ texts old ++ (string_bytes s ∷ []) = ap (λ (x : List (String _)). texts x) e ∙ map-append string_bytes old (s ∷ []) in
+    let two : referents (take (at + 1) more) ≡ referents (take at more) ++ ((get_or more at d).now ∷ []) =
+    ap referents (take_more more at d within) ∙ map-append (λ (x : Bor Text). x.now) (take at more) (get_or more at d ∷ []) in
+    one ∙ ap₂ (λ (x y : List Text). x ++ y) h (ap (λ (x : Text). x ∷ []) k) ∙ append_assoc first _ _
+    ∙ ap (λ (x : List Text). first ++ x) (sym two)
+
+pub kept_value : (f : Text → Option Text) (old new : List (Bor Text)) (w : Bor Text) (ids : List (Bor Text)) (at : ℕ) (d : Bor Text)
+    → at < length ids → map (λ (x : Text). Some x) (referents old) ≡ map f (referents (take at ids)) → new ≡ old ++ w ∷ []
+    → f (get_or ids at d).now ≡ Some w.now → map (λ (x : Text). Some x) (referents new) ≡ map f (referents (take (at + 1) ids))
+kept_value f old new w ids at d within h e k =
+    let one : map (λ (x : Text). Some x) (referents new) ≡ map (λ (x : Text). Some x) (referents old) ++ (Some w.now ∷ []) =
+    ap (λ (x : List (Bor Text)). map (λ (y : Text). Some y) (referents x)) e
+    ∙ ap (map (λ (x : Text). Some x)) (map-append (λ (x : Bor Text). x.now) old (w ∷ [])) ∙ map-append (λ (x : Text). Some x) (referents old) (w.now ∷ []) in
+    let two : map f (referents (take (at + 1) ids)) ≡ map f (referents (take at ids)) ++ (f (get_or ids at d).now ∷ []) =
+    ap (λ (x : List (Bor Text)). map f (referents x)) (take_more ids at d within)
+    ∙ ap (map f) (map-append (λ (x : Bor Text). x.now) (take at ids) (get_or ids at d ∷ [])) ∙ map-append f (referents (take at ids)) ((get_or ids at d).now ∷ []) in
+    one ∙ ap₂ (λ (x y : List (Option Text)). x ++ y) h (ap (λ (x : Option Text). x ∷ []) (sym k)) ∙ sym two
+
+pub all_there : (f : Text → Option Text) (ids : List (Bor Text)) (words : List Text) (at : ℕ) (d : Bor Text)
+    → map f (referents ids) ≡ map (λ (x : Text). Some x) words → at < length ids → f (get_or ids at d).now ≡ None → ⊥
+all_there f [] words at d h within n = let bad : at < 0 = within in absurd (omega arith)
+all_there f (i ∷ ids) [] at d h within n = cc
+all_there f (i ∷ ids) (w ∷ words) zero d h within n = let e : f i.now ≡ Some w = cc in cc
+all_there f (i ∷ ids) (w ∷ words) (suc at) d h within n =
+    let rest : map f (referents ids) ≡ map (λ (x : Text). Some x) words = cc in
+    all_there f ids words at d rest (omega arith) n
+
+-- Numbers.
+
+both_true : (a b : Bool) → (a && b) ≡ true → (a ≡ true) × (b ≡ true)
+both_true true b h = (refl, h)
+both_true false b h = cc
+
+digit_below : (c : ℕ) → is_digit c 10 ≡ true → digit_value c < 10
+digit_below c h = grind (arith, nat_tests)
+
+all_digits : (text : Text) → list_all (λ d. is_digit d 10) text ≡ true → AllDigits 10 text
+all_digits [] h = tt
+all_digits (c ∷ cs) h = let parts = both_true (is_digit c 10) _ h in (digit_below c parts.0, all_digits cs parts.1)
+
+no_plus : (text : Text) → AllDigits 10 text → get_or text 0 0 ≢ 43
+no_plus [] h = λ e. omega arith
+no_plus (c ∷ cs) h = λ e. let P : ℕ → Type 0 = λ d. digit_value d < 10 in let big : digit_value 43 < 10 = subst P e h.0 in omega arith
+
+some_digit : (text : Text) → not (is_empty text) ≡ true → 0 < length text
+some_digit [] h = cc
+some_digit (c ∷ cs) h = omega arith
+
+numeral : (text : Text) → are_digits text ≡ true → IsNumeral 10 text
+numeral text h =
+    let parts = both_true (not (is_empty text)) (list_all (λ d. is_digit d 10) text) h in
+    (some_digit text parts.0, all_digits text parts.1)
+
+within : (a : Bool) (v most : ℕ) → a ≡ true → v ≤ most → (if a && (nat_le 0 v && nat_le v most) then Some v else None) ≡ Some v
+within true v most e h = go (nat_le 0 v && nat_le v most) (grind (arith, nat_tests))
+  where
+    go : (b : Bool) → b ≡ true → (if b then Some v else None) ≡ Some v
+    go true h = refl
+    go false h = cc
+within false v most e h = cc
+
+beyond : (a : Bool) (v most : ℕ) → most < v → (if a && (nat_le 0 v && nat_le v most) then Some v else None) ≡ None
+beyond true v most h = go (nat_le 0 v && nat_le v most) (grind (arith, nat_tests))
+  where
+    go : (b : Bool) → b ≡ false → (if b then Some v else None) ≡ None
+    go true h = cc
+    go false h = refl
+beyond false v most h = refl
+
+read_digits : (text : Text) {E : Type 0} (r : Result ℕ E) → are_digits text ≡ true
+    → OkIff r (IsNumeral 10 text × (digits_value 10 text < 2 ^ 32)) (digits_value 10 text)
+    → result_ok r ≡ number_in 0 4294967295 text
+read_digits text (Ok x) h ((n, small), e) = ap (λ (v : ℕ). Some v) e ∙ sym (within (are_digits text) (digits_value 10 text) 4294967295 h (omega arith))
+read_digits text (Err e) h big =
+    let large : 4294967295 < digits_value 10 text = below (digits_value 10 text) (λ small. big (numeral text h, small)) in
+    sym (beyond (are_digits text) (digits_value 10 text) 4294967295 large)
+  where
+    below : (v : ℕ) → ¬ (v < 2 ^ 32) → 4294967295 < v
+    below v h = omega arith
+
+pub read_number : (text : Text) {E : Type 0} (r : Result ℕ E) → are_digits text ≡ true → ParsesUnsigned 32 10 text r
+    → result_ok r ≡ number_in 0 4294967295 text
+read_number text {E} r h parses =
+    let plain = without_leading_plus_none text (no_plus text (numeral text h).1) in
+    let P : Text → Type 0 = λ t. OkIff r (IsNumeral 10 t × (digits_value 10 t < 2 ^ 32)) (digits_value 10 t) in
+    read_digits text r h (subst P plain parses)

@@ -1,0 +1,6 @@
+pub mod Canon
+pub mod Grammar
+pub mod Laws
+pub mod Pass
+pub mod Request
+pub mod Table

@@ -1,0 +1,5 @@
+//! Tests of the grammar of all words.
+#![tactic(auto)]
+
+#[cfg(test)]
+mod words;

@@ -1,0 +1,342 @@
+//! Lines of words and what they ask for.
+use cli_words::{
+    BristolWords, Command, CommandWords, Offer, OptionName, Sharing, WordsError, read_words,
+};
+use std::alloc::{AllocError, Global};
+use std::test::Fail;
+
+// every command with every option
+static ALL: [Offer; 4] = [
+    Offer {
+        command: Command::Plain,
+        options: &[OptionName::As, OptionName::Parties],
+    },
+    Offer {
+        command: Command::Needs,
+        options: &[OptionName::As, OptionName::Parties],
+    },
+    Offer {
+        command: Command::Deal,
+        options: &[],
+    },
+    Offer {
+        command: Command::Local,
+        options: &[OptionName::As, OptionName::Parties, OptionName::Dealer],
+    },
+];
+
+// one command with no option
+static LOCAL: [Offer; 1] = [Offer {
+    command: Command::Local,
+    options: &[],
+}];
+
+const LOWER: &str = "00112233445566778899aabbccddeeff00112233445566778899aabbccddeeff";
+
+const UPPER: &str = "00112233445566778899AABBCCDDEEFF00112233445566778899aAbBcCdDeEfF";
+
+const SHORT: &str = "00112233445566778899aabbccddeeff00112233445566778899aabbccddeef";
+
+const LONG: &str = "00112233445566778899aabbccddeeff00112233445566778899aabbccddeefff";
+
+const NO_DIGIT: &str = "00112233445566778899aabbccddeeff00112233445566778899aabbccddeefg";
+
+// a line and its reading, where every command is run
+static READ: [(&[&str], &str); 41] = [
+    (&["plain", "c", "v"], "plain c v"),
+    (&["plain", "--", "c", "v"], "plain c v"),
+    (&["plain", "c", "--", "v"], "plain c v"),
+    (&["plain", "c", "v", "--"], "plain c v"),
+    (&["plain", "c", "--", "--"], "plain c --"),
+    (&["plain", "--", "-c", "--as=B"], "plain -c --as=B"),
+    (&["plain", "-", "-"], "plain - -"),
+    (&["plain", "=", "a b"], "plain = a b"),
+    (&["plain", "é", "-"], "plain é -"),
+    (
+        &["plain", "c", "v", "--as", "B", "--parties", "2"],
+        "plain c v B 2",
+    ),
+    (
+        &["plain", "--parties=8", "c", "--as=Y", "v"],
+        "plain c v Y 8",
+    ),
+    (
+        &["plain", "--as", "B", "c", "v", "--parties=003"],
+        "plain c v B 3",
+    ),
+    (
+        &["plain", "--as=B", "--parties", "2", "--", "-c", "-v"],
+        "plain -c -v B 2",
+    ),
+    (&["needs", "c"], "needs c"),
+    (&["needs", "--as=Y", "c", "--parties=5"], "needs c Y 5"),
+    (&["local", "c", "v", LOWER], "local c v 77"),
+    (&["local", "c", "v", UPPER], "local c v 77"),
+    (
+        &["local", "c", "v", LOWER, "--dealer", "d"],
+        "local c v 77 from d",
+    ),
+    (
+        &["local", "c", "--dealer=-d", "v", LOWER],
+        "local c v 77 from -d",
+    ),
+    (
+        &["local", "c", "v", LOWER, "--dealer", "-"],
+        "local c v 77 from -",
+    ),
+    (
+        &["local", "c", "v", LOWER, "--dealer=--"],
+        "local c v 77 from --",
+    ),
+    (
+        &["local", "c", "v", LOWER, "--dealer=a=b"],
+        "local c v 77 from a=b",
+    ),
+    (
+        &[
+            "local",
+            "--dealer",
+            "d",
+            "--as",
+            "B",
+            "--parties",
+            "4",
+            "c",
+            "v",
+            LOWER,
+        ],
+        "local c v 77 B 4 from d",
+    ),
+    (
+        &["deal", "d", LOWER, "2", "1", "0", "0", "0"],
+        "deal d 77 2 1 0 0 0",
+    ),
+    (
+        &["deal", "d", LOWER, "02", "1", "0", "0", "0"],
+        "deal d 77 2 1 0 0 0",
+    ),
+    (
+        &["deal", "d", LOWER, "8", "1", "2", "3", "4294967295"],
+        "deal d 77 8 1 2 3 4294967295",
+    ),
+    (
+        &[
+            "deal",
+            "--",
+            "-d",
+            LOWER,
+            "2",
+            "00000000000000000000007",
+            "0",
+            "0",
+            "0",
+        ],
+        "deal -d 77 2 7 0 0 0",
+    ),
+    (
+        &["deal", "d", LOWER, "2", "1", "0", "0", "4294967296"],
+        "usage",
+    ),
+    (
+        &[
+            "deal",
+            "d",
+            LOWER,
+            "2",
+            "18446744073709551617",
+            "0",
+            "0",
+            "0",
+        ],
+        "usage",
+    ),
+    (&["deal", "d", LOWER, "1", "1", "0", "0", "0"], "usage"),
+    (&["deal", "d", LOWER, "9", "1", "0", "0", "0"], "usage"),
+    (&["deal", "d", LOWER, "258", "1", "0", "0", "0"], "usage"),
+    (&["deal", "d", LOWER, "+2", "1", "0", "0", "0"], "usage"),
+    (&["deal", "d", LOWER, "2", "1", "0", "0", "-1"], "usage"),
+    (&["deal", "d", LOWER, "2", "1", "0", "0", "0x1"], "usage"),
+    (&["deal", "d", LOWER, "2", "1", "0", "0"], "usage"),
+    (&["deal", "d", LOWER, "2", "1", "0", "0", "0", "0"], "usage"),
+    (
+        &[
+            "deal",
+            "d",
+            LOWER,
+            "2",
+            "1",
+            "0",
+            "0",
+            "0",
+            "--as=B",
+            "--parties=2",
+        ],
+        "usage",
+    ),
+    (&["local", "c", "v", SHORT], "usage"),
+    (&["local", "c", "v", LONG], "usage"),
+    (&["local", "c", "v", NO_DIGIT], "usage"),
+];
+
+// lines that are in the grammar of no command
+static REFUSED: [&[&str]; 44] = [
+    &[],
+    &[""],
+    &["-h"],
+    &["--help"],
+    &["--"],
+    &["--", "plain", "c", "v"],
+    &["Plain", "c", "v"],
+    &["plai", "c", "v"],
+    &["batch", "l", LOWER, "2", "1", "0", "0", "0"],
+    &["plain"],
+    &["plain", "c"],
+    &["plain", "c", "v", "w"],
+    &["plain", "", "v"],
+    &["plain", "c", "--", ""],
+    &["plain", "c", "v", "--", "--"],
+    &["plain", "--help"],
+    &["plain", "c", "v", "-h"],
+    &["plain", "-c", "v"],
+    &["plain", "c", "v", "---"],
+    &["plain", "c", "v", "--=B"],
+    &["plain", "c", "v", "--as=B", "--as=B", "--parties", "2"],
+    &[
+        "plain",
+        "c",
+        "v",
+        "--as",
+        "B",
+        "--parties",
+        "2",
+        "--parties=2",
+    ],
+    &["plain", "c", "v", "--as", "B"],
+    &["plain", "c", "v", "--parties", "2"],
+    &["plain", "c", "v", "--as", "A", "--parties", "2"],
+    &["plain", "c", "v", "--as", "b", "--parties", "2"],
+    &["plain", "c", "v", "--as", "BY", "--parties", "2"],
+    &["plain", "c", "v", "--parties", "9", "--as", "B"],
+    &["plain", "c", "v", "--parties", "1", "--as", "B"],
+    &["plain", "c", "v", "--parties=", "--as=B"],
+    &["plain", "c", "v", "--as=B", "--parties", ""],
+    &["plain", "c", "v", "--as=B", "--parties"],
+    &["plain", "c", "v", "--parties", "2", "--as", "--", "B"],
+    &["plain", "c", "v", "--as=B", "--par", "2"],
+    &["plain", "c", "v", "--as=B", "--par=2"],
+    &["plain", "c", "v", "--as=B", "-parties=2"],
+    &["plain", "c", "v", "--as=B", "--parties:2"],
+    &["plain", "c", "v", "--dealer", "d"],
+    &["plain", "c", "v", "--workers", "1"],
+    &["--as=B", "plain", "c", "v", "--parties", "2"],
+    &["needs", "c", "v"],
+    &["local", "c", "v", LOWER, "--dealer", "-d"],
+    &["local", "c", "v", LOWER, "--dealer="],
+    &["local", "c", "v", LOWER, "--dealer", "--", "d"],
+];
+
+// a line and its reading, where `local` alone is run, with no option
+static READ_BY_FEW: [(&[&str], &str); 5] = [
+    (&["local", "c", "v", LOWER], "local c v 77"),
+    (&["local", "--", "c", "v", UPPER], "local c v 77"),
+    (&["local", "c", "v", LOWER, "--dealer", "d"], "usage"),
+    (
+        &["local", "c", "v", LOWER, "--as", "B", "--parties", "2"],
+        "usage",
+    ),
+    (&["plain", "c", "v"], "usage"),
+];
+
+/// The words of a line.
+fn words_of(alloc: Global, line: &[&str]) -> Result<Vec<String>, AllocError> {
+    let mut words = Vec::new(alloc);
+    for word in line {
+        words.push(String::from_str(alloc, word)?)?;
+    }
+    Ok(words)
+}
+
+/// The options of a Bristol text, where they are there.
+fn bristol(alloc: Global, words: Option<BristolWords>) -> Result<String, AllocError> {
+    let Some(words) = words else {
+        return String::from_str(alloc, "");
+    };
+    let sharing = match words.sharing {
+        Sharing::B => "B",
+        Sharing::Y => "Y",
+    };
+    format!(in alloc; " {sharing} {}", words.parties)
+}
+
+/// What is asked for, with the byte at place 7 for the seed.
+fn shown(alloc: Global, words: &CommandWords) -> Result<String, AllocError> {
+    match words {
+        CommandWords::Plain(w) => {
+            format!(in alloc;
+                "plain {} {}{}",
+                w.circuit,
+                w.values,
+                bristol(alloc, w.bristol)?
+            )
+        }
+        CommandWords::Needs(w) => {
+            format!(in alloc; "needs {}{}", w.circuit, bristol(alloc, w.bristol)?)
+        }
+        CommandWords::Deal(w) => {
+            format!(in alloc;
+                "deal {} {:x} {} {} {} {} {}",
+                w.prefix, w.seed.0[7], w.parties, w.mult, w.bit, w.shared, w.key
+            )
+        }
+        CommandWords::Local(w) => {
+            let dealer = match &w.dealer {
+                Some(dealer) => format!(in alloc; " from {dealer}")?,
+                None => String::from_str(alloc, "")?,
+            };
+            format!(in alloc;
+                "local {} {} {:x}{}{dealer}",
+                w.circuit,
+                w.values,
+                w.seed.0[7],
+                bristol(alloc, w.bristol)?
+            )
+        }
+    }
+}
+
+/// The reading of a line: what it asks for, or `usage`.
+fn reading(alloc: Global, offers: &[Offer], line: &[&str]) -> Result<String, AllocError> {
+    let words = words_of(alloc, line)?;
+    match read_words(alloc, offers, words.as_slice()) {
+        Ok(asked) => shown(alloc, &asked),
+        Err(WordsError::Usage) => String::from_str(alloc, "usage"),
+        Err(WordsError::NoMemory) => String::from_str(alloc, "memory"),
+    }
+}
+
+#[test]
+fn lines_are_read_by_the_whole_table(rt: HostRuntime) -> Result<(), Fail> {
+    for (line, wanted) in &READ {
+        let seen = reading(rt.alloc(), &ALL, line)?;
+        assert_eq!(rt; seen.as_str(), *wanted, "{line:?}");
+    }
+    Ok(())
+}
+
+#[test]
+fn lines_out_of_the_grammar_are_usage(rt: HostRuntime) -> Result<(), Fail> {
+    for line in &REFUSED {
+        let seen = reading(rt.alloc(), &ALL, line)?;
+        assert_eq!(rt; seen.as_str(), "usage", "{line:?}");
+    }
+    Ok(())
+}
+
+#[test]
+fn what_is_not_run_is_out_of_the_grammar(rt: HostRuntime) -> Result<(), Fail> {
+    for (line, wanted) in &READ_BY_FEW {
+        let seen = reading(rt.alloc(), &LOCAL, line)?;
+        assert_eq!(rt; seen.as_str(), *wanted, "{line:?}");
+    }
+    Ok(())
+}
