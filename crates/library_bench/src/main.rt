@@ -6,6 +6,7 @@
 //! output, one line a work, and how long it took to the error output.
 #![tactic(auto)]
 
+mod dealer;
 mod messages;
 mod shares;
 mod tapes;
@@ -17,7 +18,7 @@ use std::env;
 use std::time::Instant;
 
 /// What can be done, by name. A work is given how many times it is done, and gives a number that shows it.
-static WORKS: [(&str, Work); 9] = [
+static WORKS: [(&str, Work); 11] = [
     ("words", Work::Words),
     ("shares-of-two", Work::SharesOfTwo),
     ("shares-of-eight", Work::SharesOfEight),
@@ -27,6 +28,8 @@ static WORKS: [(&str, Work); 9] = [
     ("frames-by-1", Work::FramesBy1),
     ("frames-by-1448", Work::FramesBy1448),
     ("frames-by-65536", Work::FramesBy65536),
+    ("deal", Work::Deal),
+    ("read-keys", Work::ReadKeys),
 ];
 
 #[derive(Clone, Copy)]
@@ -49,6 +52,10 @@ enum Work {
     FramesBy1448,
     /// The same from pieces of 65,536 bytes.
     FramesBy65536,
+    /// So many bit triples and three tenths as many key bits are dealt to three parties and written.
+    Deal,
+    /// A dealer file of so many key bits of two parties is read.
+    ReadKeys,
 }
 
 impl Work {
@@ -64,6 +71,8 @@ impl Work {
             Work::FramesBy1 => Ok(messages::read_in_pieces(alloc, size, 1)?),
             Work::FramesBy1448 => Ok(messages::read_in_pieces(alloc, size, 1448)?),
             Work::FramesBy65536 => Ok(messages::read_in_pieces(alloc, size, 65_536)?),
+            Work::Deal => Ok(dealer::deal_to_three(alloc, size)?),
+            Work::ReadKeys => Ok(dealer::read_keys(alloc, size)?),
         }
     }
 }

@@ -1,0 +1,23 @@
+-- What files, parts and faults have to do with one another.
+use Rattle.std.specs.Prelude.{◌≡◌, ℕ, ◌<◌, ◌^◌, List, All}
+use Rattle.dealer_files.specs.declared.fault.DealerError.{DealerError}
+use Rattle.dealer_files.specs.Part.{Part}
+use Rattle.dealer_files.specs.File.{IsFile}
+use Rattle.dealer_files.specs.Checks.{IsFirstFault}
+
+-- the numbers of a part are words and keys, as in every part of the code
+pub record IsOfNumbers (p : Part) : Type 0 where
+  pub id : p.id < 2 ^ 64
+  pub offset : p.offset < 2 ^ 128
+  pub mult : All (λ t. (t.a < 2 ^ 64) × (t.b < 2 ^ 64) × (t.c < 2 ^ 64)) p.mult
+  pub shared : All (λ s. s.word < 2 ^ 64) p.shared
+  pub keys : All (λ k. All (λ key. key.0 < 2 ^ 128) k.times) p.keys
+
+-- the file of a part has no first fault
+abbrev pub FileHasNoFault : Type 0
+FileHasNoFault = (bytes : List ℕ) (p : Part) (fault : DealerError) → IsFile bytes p → IsFirstFault bytes fault → ⊥
+
+-- a list of bytes is the file of one part at most
+abbrev pub FileIsOfOnePart : Type 0
+FileIsOfOnePart =
+    (bytes : List ℕ) (p q : Part) → IsOfNumbers p → IsOfNumbers q → IsFile bytes p → IsFile bytes q → p ≡ q

@@ -1,0 +1,7 @@
+pub mod Checks
+pub mod File
+pub mod Honest
+pub mod Laws
+pub mod Part
+pub mod Reading
+pub mod Records
