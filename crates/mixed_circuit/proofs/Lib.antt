@@ -1,12 +1,16 @@
-mod TextLemmas
-mod WordLemmas
-mod CircuitLemmas
-mod ReadingLemmas
+pub mod NumberLemmas
+pub mod ListLemmas
+pub mod PartsLemmas
+pub mod ApartLemmas
+pub mod SaysLemmas
+pub mod PlaceLemmas
+pub mod CircuitLemmas
+pub mod NameLemmas
+pub mod OperandLemmas
+pub mod TitleLemmas
 pub mod ReadLemmas
-mod InputLemmas
-mod BitsLemmas
-mod ListLemmas
-pub mod ValuesLemmas
-mod LineLemmas
-mod GatheringLemmas
-mod TextRows
+pub mod EarlierLemmas
+pub mod TableLemmas
+pub mod WidthLemmas
+pub mod EvalLemmas
+pub mod WriteLemmas

@@ -1,29 +1,100 @@
--- Circuits of statements: how each is shared, and what it asks of the statements before it.
-use Rattle.std.specs.Prelude.{ℕ, ◌≡◌, ◌<◌, ◌≤◌, true, List, [], ◌∷◌, ◌++◌, length, take, slice_get, Option, Some, None, option_and_then, option_map, if◌then◌else◌, ◌+◌, ◌&&◌, IsSome, MatchOption, ⊤, is_some}
+-- Circuits: what each statement is made of, whatever its form.
+use Rattle.std.specs.Prelude.{ℕ, ◌+◌, Bool, true, false, ◌&&◌, List, [], ◌∷◌, ◌++◌, slice_get, Option, Some, None, option_map, option_and_then, is_some, if◌then◌else◌}
 use Rattle.std.specs.Str.{bytes_eq}
+use Rattle.share_types.specs.declared.sharing.Sharing.{Sharing}
+use Rattle.share_types.specs.declared.sharing.Sharing.TheVariants.{A, B, Y}
 use Rattle.share_types.specs.declared.sharing.WireType.{WireType}
-use Rattle.share_types.specs.declared.sharing.WireType.TheVariants.{A}
-use Rattle.mixed_circuit.specs.declared.circuit.Form.{Form}
-use Rattle.mixed_circuit.specs.declared.circuit.Form.TheVariants.{InputA, AddA, SubA, MulA, Output}
-use Rattle.mixed_circuit.specs.declared.circuit.Receiver.{Receiver}
-use Rattle.mixed_circuit.specs.declared.circuit.Receiver.TheVariants.{All, One}
-use Rattle.mixed_circuit.specs.Text.{Text}
-use Rattle.mixed_circuit.specs.Word.{is_name}
+use Rattle.share_types.specs.declared.sharing.WireType.TheVariants as wire
+use Rattle.circuit_values.specs.declared.receiver.Receiver.{Receiver}
+use Rattle.circuit_values.specs.declared.receiver.Receiver.TheVariants.{All, One}
+use Rattle.mixed_circuit.specs.declared.language.Operation.{Operation}
+use Rattle.mixed_circuit.specs.declared.language.Operation.TheVariants.{InputWord, InputBits, ConstWord, ConstBits, Add, Sub, Mul, AddConst, MulConst, Xor, And, Not, Slice, Join, A2Y, A2B, B2Y, Y2B, B2A, Y2A, Output}
+use Rattle.mixed_circuit.specs.declared.form.Form.{Form}
+use Rattle.mixed_circuit.specs.declared.form.Form.TheVariants as form
+use Rattle.text_lines.specs.Text.{Text}
 
--- a statement: the name of its value, how that is shared, and the form. An output has no value, and the
--- empty name
+-- What a statement does, in one shape for all: the operation, how its value is shared if it has one, the places of its
+-- operands, the party whose input it is or that is told, and its numbers. A width that is not stated is 64
+pub record Shape : Type 0 where
+  pub operation : Operation
+  pub sharing : Option Sharing
+  pub operands : List ℕ
+  pub party : Option ℕ
+  pub width : ℕ
+  pub place : ℕ
+  pub constant : ℕ
+
+-- the shape of an operation on operands whose line states no party and no number
+abbrev pub bare : Operation → Option Sharing → List ℕ → Shape
+bare operation sharing operands = record { operation = operation; sharing = sharing; operands = operands; party = None; width = 64; place = 0; constant = 0 }
+
+-- the party that an output is told to, if it is one
+abbrev pub party_told : Receiver → Option ℕ
+party_told All = None
+party_told (One party) = Some party.0
+
+-- the list of all forms
+abbrev pub shape_of : Form → Shape
+shape_of (form.InputA party) = record (bare InputWord (Some A) []) { party = Some party.0 }
+shape_of (form.InputB party width) = record (bare InputBits (Some B) []) { party = Some party.0; width = width }
+shape_of (form.InputY party width) = record (bare InputBits (Some Y) []) { party = Some party.0; width = width }
+shape_of (form.ConstA c) = record (bare ConstWord (Some A) []) { constant = c }
+shape_of (form.ConstB c) = record (bare ConstBits (Some B) []) { width = c.width; constant = c.word }
+shape_of (form.ConstY c) = record (bare ConstBits (Some Y) []) { width = c.width; constant = c.word }
+shape_of (form.AddA x y) = bare Add (Some A) (x ∷ y ∷ [])
+shape_of (form.SubA x y) = bare Sub (Some A) (x ∷ y ∷ [])
+shape_of (form.MulA x y) = bare Mul (Some A) (x ∷ y ∷ [])
+shape_of (form.AddConstA x c) = record (bare AddConst (Some A) (x ∷ [])) { constant = c }
+shape_of (form.MulConstA x c) = record (bare MulConst (Some A) (x ∷ [])) { constant = c }
+shape_of (form.XorB x y) = bare Xor (Some B) (x ∷ y ∷ [])
+shape_of (form.XorY x y) = bare Xor (Some Y) (x ∷ y ∷ [])
+shape_of (form.AndB x y) = bare And (Some B) (x ∷ y ∷ [])
+shape_of (form.AndY x y) = bare And (Some Y) (x ∷ y ∷ [])
+shape_of (form.NotB x) = bare Not (Some B) (x ∷ [])
+shape_of (form.NotY x) = bare Not (Some Y) (x ∷ [])
+shape_of (form.SliceB x at width) = record (bare Slice (Some B) (x ∷ [])) { width = width; place = at }
+shape_of (form.SliceY x at width) = record (bare Slice (Some Y) (x ∷ [])) { width = width; place = at }
+shape_of (form.JoinB x y) = bare Join (Some B) (x ∷ y ∷ [])
+shape_of (form.JoinY x y) = bare Join (Some Y) (x ∷ y ∷ [])
+shape_of (form.A2Y x) = bare A2Y (Some Y) (x ∷ [])
+shape_of (form.A2B x) = bare A2B (Some B) (x ∷ [])
+shape_of (form.B2Y x) = bare B2Y (Some Y) (x ∷ [])
+shape_of (form.Y2B x) = bare Y2B (Some B) (x ∷ [])
+shape_of (form.B2A x) = bare B2A (Some A) (x ∷ [])
+shape_of (form.Y2A x) = bare Y2A (Some A) (x ∷ [])
+shape_of (form.Output x to) = record (bare Output None (x ∷ [])) { party = party_told to }
+
+-- a statement: the name of its value, how that is shared, and what it does. An output has no value, and the empty name
 pub record Statement : Type 0 where
   pub name : Text
   pub wire : Option WireType
-  pub form : Form
+  pub shape : Shape
 
 pub record Circuit : Type 0 where
   pub parties : ℕ
   pub statements : List Statement
 
--- the most statements of a circuit, outputs included
-abbrev pub max_statements : ℕ
-max_statements = 1048576
+-- a value of so many bits that is shared so. A word, which is shared by sum, has 64
+abbrev pub wire_type : Sharing → ℕ → WireType
+wire_type A width = wire.A
+wire_type B width = wire.B width
+wire_type Y width = wire.Y width
+
+abbrev pub sharing_of : WireType → Sharing
+sharing_of wire.A = A
+sharing_of (wire.B width) = B
+sharing_of (wire.Y width) = Y
+
+abbrev pub width_of : WireType → ℕ
+width_of wire.A = 64
+width_of (wire.B width) = width
+width_of (wire.Y width) = width
+
+abbrev pub is_shared : Sharing → WireType → Bool
+is_shared A wire.A = true
+is_shared B (wire.B width) = true
+is_shared Y (wire.Y width) = true
+is_shared _ _ = false
 
 -- how the value of the statement at a place is shared, if there is one and it has a value
 abbrev pub wire_at : List Statement → ℕ → Option WireType
@@ -33,56 +104,6 @@ wire_at statements at = option_and_then (λ s. s.wire) (slice_get statements at)
 abbrev pub place_of : List Statement → Text → Option ℕ
 place_of [] name = None
 place_of (s ∷ more) name = if is_some s.wire && bytes_eq s.name name then Some 0 else option_map (λ at. at + 1) (place_of more name)
-
--- how the value of a form is shared
-abbrev pub wire_of : Form → Option WireType
-wire_of (InputA party) = Some A
-wire_of (AddA x y) = Some A
-wire_of (SubA x y) = Some A
-wire_of (MulA x y) = Some A
-wire_of (Output x to) = None
-
--- a receiver is all parties, or one of them
-abbrev pub IsReceiver : ℕ → Receiver → Type 0
-IsReceiver parties All = ⊤
-IsReceiver parties (One party) = party.0 < parties
-
--- two operands are earlier values, both shared so
-abbrev pub AreShared : List Statement → WireType → ℕ → ℕ → Type 0
-AreShared before wire x y = (wire_at before x ≡ Some wire) × (wire_at before y ≡ Some wire)
-
--- what a form asks of the circuit's parties and of the statements before it
-abbrev pub IsAllowed : ℕ → List Statement → Form → Type 0
-IsAllowed parties before (InputA party) = party.0 < parties
-IsAllowed parties before (AddA x y) = AreShared before A x y
-IsAllowed parties before (SubA x y) = AreShared before A x y
-IsAllowed parties before (MulA x y) = AreShared before A x y
-IsAllowed parties before (Output x to) = IsSome (wire_at before x) × IsReceiver parties to
-
--- the operands of a form are statements before a place
-abbrev pub AreOperandsBefore : ℕ → Form → Type 0
-AreOperandsBefore at (InputA party) = ⊤
-AreOperandsBefore at (AddA x y) = (x < at) × (y < at)
-AreOperandsBefore at (SubA x y) = (x < at) × (y < at)
-AreOperandsBefore at (MulA x y) = (x < at) × (y < at)
-AreOperandsBefore at (Output x to) = x < at
-
--- a value has a name that no earlier value has, and an output has the empty name
-abbrev pub IsNamed : List Statement → Statement → Type 0
-IsNamed before s = MatchOption s.wire (s.name ≡ []) (λ _. (is_name s.name ≡ true) × (place_of before s.name ≡ None))
-
--- a statement that may stand after others
-pub record Follows (parties : ℕ) (before : List Statement) (s : Statement) : Type 0 where
-  pub allowed : IsAllowed parties before s.form
-  pub shared : s.wire ≡ wire_of s.form
-  pub named : IsNamed before s
-
--- a circuit of 2 to 8 parties, each statement of which may stand after those before it
-pub record IsCircuit (c : Circuit) : Type 0 where
-  pub some_parties : 2 ≤ c.parties
-  pub most_parties : c.parties ≤ 8
-  pub few : length c.statements ≤ max_statements
-  pub each : (at : ℕ) (s : Statement) → slice_get c.statements at ≡ Some s → Follows c.parties (take at c.statements) s
 
 -- the circuit of no statement
 abbrev pub no_statements : ℕ → Circuit

@@ -1,82 +1,80 @@
--- The language of circuits: which words spell a statement, and which texts read as a circuit.
-use Rattle.std.specs.Prelude.{ℕ, ◌≡◌, ◌≤◌, Bool, true, false, List, [], ◌∷◌, ◌++◌, length, filter, map, Some, MatchOption, codes, ⊤}
+-- The language of circuits: which texts read as a circuit, and which line of any other text shows the first fault.
+use Rattle.std.specs.Prelude.{ℕ, Bool, false, ◌&&◌, List, [], ◌∷◌, Option, None, Result, Ok, Err, if◌then◌else◌, codes}
 use Rattle.std.specs.List.{list_all}
-use Rattle.mixed_circuit.specs.declared.circuit.Form.{Form}
-use Rattle.mixed_circuit.specs.declared.circuit.Form.TheVariants.{InputA, AddA, SubA, MulA, Output}
-use Rattle.mixed_circuit.specs.declared.circuit.Receiver.{Receiver}
-use Rattle.mixed_circuit.specs.declared.circuit.Receiver.TheVariants.{All, One}
-use Rattle.mixed_circuit.specs.Text.{Text, lines, line_words, is_allowed}
-use Rattle.mixed_circuit.specs.Word.{number_of}
-use Rattle.mixed_circuit.specs.Circuit.{Circuit, Statement, Follows, place_of, wire_of, max_statements}
+use Rattle.std.specs.Str.{bytes_eq}
+use Rattle.mot_base.specs.Limits.{least_parties, most_parties}
+use Rattle.mixed_circuit.specs.declared.cause.CircuitCause.{CircuitCause}
+use Rattle.mixed_circuit.specs.declared.cause.CircuitCause.TheVariants.{NotText, Header}
+use Rattle.mixed_circuit.specs.declared.cause.CircuitError.{CircuitError}
+use Rattle.mixed_circuit.specs.declared.cause.CircuitError.TheVariants.{At, NoMemory}
+use Rattle.mixed_circuit.specs.declared.read.Stage.{Stage}
+use Rattle.mixed_circuit.specs.declared.read.Stage.TheVariants.{Start, Titled, Body}
+use Rattle.mixed_circuit.specs.Circuit.{Circuit, no_statements, with_statement}
+use Rattle.mixed_circuit.specs.Line.{said, number_within}
+use Rattle.text_lines.specs.Chain.{or_cause, unless, ◌>>=◌}
+use Rattle.text_lines.specs.Text.{Text, is_allowed, line_words}
+use Rattle.text_lines.specs.LineReader.{LineReader, ReadsAs, FirstFaultOf, ReadsOrFaults}
 
--- what one word of a statement spells: itself, an earlier value by its name, or a number
-pub data Piece : Type 0 where
-  keyword : Text → Piece
-  operand : ℕ → Piece
-  number : ℕ → Piece
+-- the words are `mixed 1`
+abbrev pub is_title : List Text → Bool
+is_title (first ∷ second ∷ []) = bytes_eq first (codes "mixed") && bytes_eq second (codes "1")
+is_title _ = false
 
-abbrev pub receiver_piece : Receiver → Piece
-receiver_piece All = keyword (codes "all")
-receiver_piece (One party) = number party.0
+-- the number of parties, where the words are `parties` and such a number
+abbrev pub parties_of : List Text → Option ℕ
+parties_of (first ∷ second ∷ []) = if bytes_eq first (codes "parties") then number_within least_parties most_parties second else None
+parties_of _ = None
 
--- how a form is spelled; where it gives a value, behind the value's name and `=`
-abbrev pub spelling : Form → List Piece
-spelling (InputA party) = keyword (codes "input") ∷ number party.0 ∷ keyword (codes "A") ∷ []
-spelling (AddA x y) = keyword (codes "add") ∷ operand x ∷ operand y ∷ []
-spelling (SubA x y) = keyword (codes "sub") ∷ operand x ∷ operand y ∷ []
-spelling (MulA x y) = keyword (codes "mul") ∷ operand x ∷ operand y ∷ []
-spelling (Output x to) = keyword (codes "output") ∷ operand x ∷ receiver_piece to ∷ []
+-- the circuit with the statement that a line says, or the first cause that the line shows
+unfoldable pub adds : Circuit → List Text → Result Circuit CircuitCause
+adds c words = do
+  statement ← said c words
+  Ok (with_statement c statement)
 
--- a word spells a piece, behind these statements
-abbrev pub SpellsPiece : List Statement → Piece → Text → Type 0
-SpellsPiece before (keyword text) word = word ≡ text
-SpellsPiece before (operand x) word = place_of before word ≡ Some x
-SpellsPiece before (number n) word = number_of word ≡ Some n
+-- the stage behind a line's words, of which there are some, or the first cause that they show
+unfoldable pub behind_words : Stage → List Text → Result Stage CircuitCause
+behind_words Start words = if is_title words then Ok Titled else Err Header
+behind_words Titled words = do
+  parties ← or_cause Header (parties_of words)
+  Ok (Body (no_statements parties))
+behind_words (Body c) words = do
+  next ← adds c words
+  Ok (Body next)
 
--- words spell pieces, one each
-abbrev pub Spell : List Statement → List Piece → List Text → Type 0
-Spell before [] [] = ⊤
-Spell before [] (word ∷ more) = ⊥
-Spell before (piece ∷ pieces) [] = ⊥
-Spell before (piece ∷ pieces) (word ∷ more) = SpellsPiece before piece word × Spell before pieces more
+-- a line of no words is passed over
+abbrev pub behind_content : Stage → List Text → Result Stage CircuitCause
+behind_content stage [] = Ok stage
+behind_content stage (word ∷ words) = behind_words stage (word ∷ words)
 
--- the words of a line spell a statement: its form, where it gives a value behind the name and `=`
-abbrev pub Spells : List Statement → List Text → Statement → Type 0
-Spells before line s = MatchOption (wire_of s.form) (Spell before (spelling s.form) line)
-    (λ _. (rest : List Text) × (line ≡ s.name ∷ codes "=" ∷ rest) × Spell before (spelling s.form) rest)
+-- the stage behind a line, or the first cause that the line shows
+unfoldable pub behind : Stage → Text → Result Stage CircuitCause
+behind stage line = do
+  text ← unless NotText (list_all is_allowed line)
+  behind_content stage (line_words line)
 
--- what a line says behind the statements of the lines before it
-abbrev pub Says : ℕ → List Statement → List Text → Statement → Type 0
-Says parties before line s = Spells before line s × Follows parties before s
+-- the circuit behind the last line: both headers have to stand by then
+abbrev pub whole : Stage → Result Circuit CircuitCause
+whole Start = Err Header
+whole Titled = Err Header
+whole (Body c) = Ok c
 
--- lines say statements, one each, every line behind those before it
-abbrev pub Say : ℕ → List Statement → List (List Text) → List Statement → Type 0
-Say parties before [] [] = ⊤
-Say parties before [] (s ∷ more) = ⊥
-Say parties before (line ∷ lines) [] = ⊥
-Say parties before (line ∷ lines) (s ∷ more) = Says parties before line s × Say parties (before ++ s ∷ []) lines more
+-- the language of circuits, line by line
+abbrev pub circuits : LineReader Stage Circuit CircuitCause
+circuits = record { start = Start; behind = behind; whole = whole }
 
-abbrev pub some_words : List Text → Bool
-some_words [] = false
-some_words (word ∷ more) = true
+-- a text reads as a circuit: no line shows a cause, and they are both headers and the circuit's statements
+abbrev pub Reads : Text → Circuit → Type 0
+Reads text c = ReadsAs Stage Circuit CircuitCause circuits text c
 
--- the words of each line that is not blank
-abbrev pub content : List Text → List (List Text)
-content lines = filter some_words (map line_words lines)
+-- the first line of a text that shows a cause, and the first cause of that line
+abbrev pub FirstFault : Text → ℕ → CircuitCause → Type 0
+FirstFault text line cause = FirstFaultOf circuits text line cause
 
--- A text reads as a circuit: its lines that are not blank are `mixed 1`, `parties N` and those that say
--- the statements
-pub record Reads (text : Text) (c : Circuit) : Type 0 where
-  pub bytes : list_all is_allowed text ≡ true
-  pub number : Text
-  pub body : List (List Text)
-  pub read : content (lines text) ≡ (codes "mixed" ∷ codes "1" ∷ []) ∷ (codes "parties" ∷ number ∷ []) ∷ body
-  pub parties : number_of number ≡ Some c.parties
-  pub some_parties : 2 ≤ c.parties
-  pub most_parties : c.parties ≤ 8
-  pub few : length c.statements ≤ max_statements
-  pub statements : Say c.parties [] body c.statements
+-- an error is the first fault of a text, or memory ran out
+abbrev pub IsFirstFault : Text → CircuitError → Type 0
+IsFirstFault text (At line cause) = FirstFault text line cause
+IsFirstFault text NoMemory = Unit {0}
 
--- a text reads as at most one circuit
-abbrev pub ReadsOneCircuit : Type 0
-ReadsOneCircuit = (text : Text) (c d : Circuit) → Reads text c → Reads text d → c ≡ d
+-- of every text exactly one is the case: it reads as one circuit, or one line and cause are its first fault
+abbrev pub EachReadsOrFaults : Type 0
+EachReadsOrFaults = (text : Text) → ReadsOrFaults Stage Circuit CircuitCause circuits text

@@ -1,26 +1,33 @@
-ghost use Rattle.std.specs.Prelude.{◌≡◌, ◌<◌, ◌≤◌, [], true, length, Some, None, IfSome, IfOk, IfNone, IsTrue, ◌↔◌, ◌≢◌, ℕ};
-ghost use Rattle.share_types.specs.declared.sharing.WireType.{WireType};
-ghost use Rattle.share_types.specs.declared.sharing.WireType.TheVariants.{A};
-ghost use Rattle.mixed_circuit.specs.Circuit.{no_statements, IsCircuit, Follows, place_of, wire_at, max_statements, with_statement};
+ghost use Rattle.std.specs.Prelude.{◌≡◌, ◌<◌, ◌≤◌, true, length, map, nat_lt, option_map, is_some, None, IfOk};
+ghost use Rattle.mixed_circuit.specs.declared.cause.CircuitCause.TheVariants.{NameUnknown};
+ghost use Rattle.mot_base.specs.Limits.{most_statements};
+ghost use Rattle.mixed_circuit.specs.Circuit.{no_statements, place_of, with_statement};
+ghost use Rattle.mixed_circuit.specs.Line.{is_new, operand_of, operands_of};
+ghost use Rattle.text_lines.specs.Chain.{or_cause};
+ghost use Rattle.mixed_circuit.specs.Said.{IsCircuit, IsSaid};
+ghost use Rattle.mixed_circuit.specs.Gives.{Gives};
 
-use crate::circuit::{Form, MAX_STATEMENTS, Mixed, Statement};
-use crate::word::{is_name_word, text_of};
-use share_types::WireType;
+use crate::cause::{CircuitCause, LineError};
+use crate::circuit::{Mixed, Statement};
+use crate::operand::Operand;
+use mot_base::MAX_STATEMENTS;
 use std::alloc::{AllocError, Global};
-use std::collections::HashMap;
+use std::collections::BTreeMap;
 use std::marker::Model;
+use text_lines::text_of;
 
 /// A circuit that grows by one statement after another, and the places of its values by their names.
 #[derive(Drop)]
 pub struct Builder {
     circuit: Mixed,
-    places: HashMap<String, u32>,
+    places: BTreeMap<String, u32>,
 }
 
 impl Model for Builder {
     ghost use Rattle.std.specs.Prelude.{◌≡◌, ℕ, List};
-    ghost use Rattle.std.specs.HashMap.{get_by_text};
-    ghost use Rattle.mixed_circuit.specs.Circuit.{Circuit, IsCircuit, place_of};
+    ghost use Rattle.std.specs.BTreeMap.{get_by_text};
+    ghost use Rattle.mixed_circuit.specs.Circuit.{Circuit, place_of};
+    ghost use Rattle.mixed_circuit.specs.Said.{IsCircuit};
 
     ghost Value = { Circuit };
 
@@ -38,22 +45,22 @@ impl Builder {
     {
         Builder {
             circuit: Mixed::new(alloc, parties),
-            places: HashMap::new(alloc),
+            places: BTreeMap::new(alloc),
         }
     }
 
     pub fn parties(&self) -> u8
-        ensures { result ≡ self.now.parties }
+        ensures value { result ≡ self.now.parties }
+        ensures most { result ≤ 8 }
     {
         self.circuit.parties()
     }
 
-    /// Whether the circuit has as many statements as a circuit may have.
-    pub fn is_full(&self) -> bool
-        ensures full { IsTrue result ↔ (length self.now.statements ≡ max_statements) }
-        ensures circuit { IsCircuit self.now }
+    /// Whether there is room for one statement more.
+    pub fn has_room(&self) -> bool
+        ensures { result ≡ nat_lt (length self.now.statements) most_statements }
     {
-        self.circuit.len() as usize == MAX_STATEMENTS
+        self.circuit.len() < MAX_STATEMENTS
     }
 
     /// The circuit that was built.
@@ -63,8 +70,18 @@ impl Builder {
         self.circuit
     }
 
+    /// Whether a name, if one is given, is no value's.
+    pub fn is_new(&self, name: Option<&[u8]>) -> bool
+        ensures { result ≡ is_new self.now.statements (option_map (λ name. name.now) name.entry) }
+    {
+        match name {
+            Some(name) => self.place(name).is_none(),
+            None => true,
+        }
+    }
+
     /// The statement whose value a word names.
-    pub fn place(&self, word: &[u8]) -> Option<u32>
+    fn place(&self, word: &[u8]) -> Option<u32>
         ensures { result ≡ place_of self.now.statements word.now }
     {
         let places = &self.places;
@@ -72,64 +89,72 @@ impl Builder {
         places.get(name).copied()
     }
 
-    /// The statement whose value a word names, where that value is shared so.
-    pub fn shared(&self, word: &[u8], wire: WireType) -> Option<u32>
-        ensures named { IfSome result (λ at. place_of self.now.statements word.now ≡ Some at) }
-        ensures shared { IfSome result (λ at. wire_at self.now.statements at ≡ Some wire) }
-        ensures none { IfNone result ((at : ℕ) → place_of self.now.statements word.now ≡ Some at → wire_at self.now.statements at ≢ Some wire) }
+    /// The value that a word names.
+    fn operand(&self, word: &[u8]) -> Option<Operand>
+        ensures { result ≡ operand_of self.now.statements word.now }
     {
         let at = self.place(word)?;
-        if self.circuit.wire(at) == Some(wire) {
-            Some(at)
+        let wire = self.circuit.wire(at)?;
+        Some(Operand { at, wire })
+    }
+
+    /// The values that words name.
+    pub fn operands(&self, alloc: Global, words: &[&[u8]]) -> Result<Vec<Operand>, LineError>
+        ensures { Gives (λ found. found.items) result (or_cause NameUnknown (operands_of
+            self.now.statements (map (λ word. word.now) words.now))) }
+    {
+        let mut found = Vec::new(alloc);
+        for word in words {
+            let Some(operand) = self.operand(word) else {
+                return Err(LineError::Shows(CircuitCause::NameUnknown));
+            };
+            found.push(operand)?;
+        }
+        Ok(found)
+    }
+
+    /// The circuit with one statement more.
+    pub fn with_statement(self, statement: Statement) -> Result<Builder, AllocError>
+        requires few { length self.statements < most_statements }
+        requires said { IsSaid self.parties self.statements statement }
+        ensures { IfOk result (λ b. b ≡ with_statement self statement) }
+    {
+        if statement.wire.is_some() {
+            self.with_value(statement)
         } else {
-            None
+            self.with_output(statement)
         }
     }
 
     /// The circuit with one statement more, which gives a value.
-    pub fn with_value(
-        self,
-        alloc: Global,
-        name: &[u8],
-        wire: WireType,
-        form: Form,
-    ) -> Result<Builder, AllocError>
-        requires few { length self.statements < max_statements }
-        requires follows { Follows self.parties self.statements (record { name = name.now; wire = Some wire; form = form }) }
-        ensures { IfOk result (λ b. b ≡ with_statement self (record { name = name.now; wire = Some wire; form = form })) }
+    fn with_value(self, statement: Statement) -> Result<Builder, AllocError>
+        requires few { length self.statements < most_statements }
+        requires said { IsSaid self.parties self.statements statement }
+        requires value { is_some statement.wire ≡ true }
+        ensures { IfOk result (λ b. b ≡ with_statement self statement) }
     {
-        let Some(text) = text_of(name) else {
-            unreachable!()
-        };
         let Builder {
             mut circuit,
             mut places,
         } = self;
-        let at = circuit.len();
-        places.insert(String::from_str(alloc, text)?, at)?;
-        circuit.push(Statement {
-            name: String::from_str(alloc, text)?,
-            wire: Some(wire),
-            form,
-        })?;
+        let name = statement.name.clone()?;
+        places.insert(name, circuit.len())?;
+        circuit.push(statement)?;
         Ok(Builder { circuit, places })
     }
 
-    /// The circuit with one statement more, which is an output.
-    pub fn with_output(self, alloc: Global, form: Form) -> Result<Builder, AllocError>
-        requires few { length self.statements < max_statements }
-        requires follows { Follows self.parties self.statements (record { name = []; wire = None; form = form }) }
-        ensures { IfOk result (λ b. b ≡ with_statement self (record { name = []; wire = None; form = form })) }
+    /// The circuit with one statement more, which gives no value.
+    fn with_output(self, statement: Statement) -> Result<Builder, AllocError>
+        requires few { length self.statements < most_statements }
+        requires said { IsSaid self.parties self.statements statement }
+        requires no_value { statement.wire ≡ None }
+        ensures { IfOk result (λ b. b ≡ with_statement self statement) }
     {
         let Builder {
             mut circuit,
             places,
         } = self;
-        circuit.push(Statement {
-            name: String::new(alloc),
-            wire: None,
-            form,
-        })?;
+        circuit.push(statement)?;
         Ok(Builder { circuit, places })
     }
 }

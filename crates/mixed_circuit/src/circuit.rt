@@ -1,31 +1,11 @@
-ghost use Rattle.std.specs.Prelude.{◌≡◌, ◌<◌, ◌≤◌, length, slice_get, option_map, Some, ◌==◌, [], OnOk, OnErr};
+ghost use Rattle.std.specs.Prelude.{◌≡◌, ◌<◌, ◌≤◌, ◌==◌, length, map, slice_get, option_map, Some, None, IfOk, OnOk, OnErr};
 
-use mot_base::Party;
+use crate::form::Form;
+use circuit_values::Values;
+use mot_base::NoMemory;
 use share_types::WireType;
 use std::alloc::{AllocError, Global};
 use std::marker::Model;
-
-/// Who learns an output.
-#[derive(Clone, Copy, Debug, PartialEq, Eq)]
-pub enum Receiver {
-    All,
-    One(Party),
-}
-
-/// What a statement does. `x` and `y` are the numbers of the operands' statements.
-#[derive(Clone, Copy, Debug, PartialEq, Eq)]
-pub enum Form {
-    /// An input of a party, shared by sum.
-    InputA { party: Party },
-    /// The sum of two values modulo 2^64.
-    AddA { x: u32, y: u32 },
-    /// The difference of two values modulo 2^64.
-    SubA { x: u32, y: u32 },
-    /// The product of two values modulo 2^64.
-    MulA { x: u32, y: u32 },
-    /// The value of `x` is told to a receiver.
-    Output { x: u32, to: Receiver },
-}
 
 /// One statement of a circuit.
 #[derive(Debug, Drop)]
@@ -38,25 +18,24 @@ pub(crate) struct Statement {
 impl Model for Statement {
     ghost use Rattle.std.specs.Prelude.{string_bytes};
     ghost use Rattle.mixed_circuit.specs.Circuit as spec;
+    ghost use Rattle.mot_base.specs.Limits.{most_statements};
+    ghost use Rattle.mixed_circuit.specs.Circuit.{shape_of};
 
     ghost Value = { spec.Statement };
 
-    ghost view = { λ s. record { name = string_bytes s.name; wire = s.wire; form = s.form } };
+    ghost view = { λ s. record { name = string_bytes s.name; wire = s.wire; shape = shape_of s.form } };
 }
 
-/// The most statements of a circuit, outputs included.
-pub const MAX_STATEMENTS: usize = 1_048_576;
-
-/// A circuit in mixed text: its parties and its statements, each of which stands after those whose values
-/// it uses.
+/// A circuit in mixed text: its parties and its statements, each of which stands behind those whose values it uses.
 #[derive(Debug, Drop)]
 pub struct Mixed {
-    pub(crate) parties: u8,
-    pub(crate) statements: Vec<Statement>,
+    parties: u8,
+    statements: Vec<Statement>,
 }
 
 impl Model for Mixed {
-    ghost use Rattle.mixed_circuit.specs.Circuit.{Circuit, IsCircuit};
+    ghost use Rattle.mixed_circuit.specs.Circuit.{Circuit};
+    ghost use Rattle.mixed_circuit.specs.Said.{IsCircuit};
 
     ghost Value = { Circuit };
 
@@ -66,14 +45,19 @@ impl Model for Mixed {
 }
 
 impl Mixed {
-    ghost use Rattle.mixed_circuit.specs.Circuit.{IsCircuit, AreOperandsBefore, Follows, max_statements, with_statement};
+    ghost use Rattle.mot_base.specs.Limits.{most_statements};
+    ghost use Rattle.mixed_circuit.specs.Circuit.{shape_of, no_statements, with_statement};
+    ghost use Rattle.mixed_circuit.specs.Said.{IsCircuit, IsSaid, AreEarlier};
+    ghost use Rattle.mixed_circuit.specs.Wide.{AllWide};
+    ghost use Rattle.share_types.specs.Bits.{number};
+    ghost use Rattle.circuit_values.specs.Values.{HaveWidths};
+    ghost use Rattle.mixed_circuit.specs.Table.{inputs_of};
 
     /// The circuit of no statement.
     pub(crate) fn new(alloc: Global, parties: u8) -> Mixed
         requires some { 2 ≤ parties }
         requires most { parties ≤ 8 }
-        ensures parties { result.parties ≡ parties }
-        ensures statements { result.statements ≡ [] }
+        ensures { result ≡ no_statements parties }
     {
         Mixed {
             parties,
@@ -83,8 +67,8 @@ impl Mixed {
 
     /// Adds a statement at the end.
     pub(crate) fn push(&mut self, statement: Statement) -> Result<(), AllocError>
-        requires few { length self.old.statements < max_statements }
-        requires follows { Follows self.old.parties self.old.statements statement }
+        requires few { length self.old.statements < most_statements }
+        requires said { IsSaid self.old.parties self.old.statements statement }
         ensures ok { OnOk result (self.new ≡ with_statement self.old statement) }
         ensures circuit { IsCircuit self.new }
         ensures err { OnErr result (self.new ≡ self.old) }
@@ -93,7 +77,7 @@ impl Mixed {
         Ok(())
     }
 
-    /// The number of parties.
+    /// The number of parties, from 2 to 8.
     pub fn parties(&self) -> u8
         ensures value { result ≡ self.now.parties }
         ensures circuit { IsCircuit self.now }
@@ -101,7 +85,7 @@ impl Mixed {
         self.parties
     }
 
-    /// The number of statements.
+    /// The number of statements, at most 1,048,576.
     pub fn len(&self) -> u32
         ensures value { result ≡ length self.now.statements }
         ensures circuit { IsCircuit self.now }
@@ -119,7 +103,7 @@ impl Mixed {
     /// The name of a statement's value, which is empty for an output.
     pub fn name(&self, at: u32) -> &str
         requires { at < length self.now.statements }
-        ensures { option_map (λ s. s.name) (slice_get self.now.statements at) ≡ Some result.now }
+        ensures { option_map (λ s. s.name) (slice_get self.entry.now.statements at) ≡ Some result.now }
     {
         self.statements[at as usize].name.as_str()
     }
@@ -127,7 +111,8 @@ impl Mixed {
     /// How the value of a statement is shared, which is none exactly for an output.
     pub fn wire(&self, at: u32) -> Option<WireType>
         requires { at < length self.now.statements }
-        ensures { option_map (λ s. s.wire) (slice_get self.now.statements at) ≡ Some result }
+        ensures value { option_map (λ s. s.wire) (slice_get self.now.statements at) ≡ Some result }
+        ensures wide { AllWide self.now.statements }
     {
         self.statements[at as usize].wire
     }
@@ -135,9 +120,19 @@ impl Mixed {
     /// What a statement does. Its operands are earlier statements.
     pub fn form(&self, at: u32) -> Form
         requires { at < length self.now.statements }
-        ensures value { option_map (λ s. s.form) (slice_get self.now.statements at) ≡ Some result }
-        ensures operands { AreOperandsBefore at result }
+        ensures value { option_map (λ s.
+            s.shape) (slice_get self.now.statements at) ≡ Some (shape_of result) }
+        ensures operands { AreEarlier at (shape_of result).operands }
     {
         self.statements[at as usize].form
+    }
+
+    /// The number of each input's value, from the values of all inputs.
+    pub fn input_numbers(&self, alloc: Global, values: &Values) -> Result<Vec<u64>, NoMemory>
+        requires { HaveWidths None (inputs_of self.now.statements) values.now }
+        ensures { IfOk result (λ numbers. numbers.items ≡ map number values.now) }
+    {
+        let _statements = &self.statements;
+        values.numbers(alloc)
     }
 }

@@ -1,16 +1,29 @@
-//! Circuits and the values of their inputs as text, and the definition of what a circuit computes.
+//! Circuits over all three sharings as text, and what a circuit computes.
 #![tactic(auto)]
 
 mod builder;
+mod cause;
 mod circuit;
-mod inputs;
+mod evaluate;
+mod form;
+mod language;
+mod line;
+mod operand;
+mod raw;
 mod read;
-mod table;
-mod text;
-mod values;
-mod word;
+mod row;
+mod statement;
+mod tables;
+mod telling;
+mod write;
 
-pub use circuit::{Form, MAX_STATEMENTS, Mixed, Receiver};
-pub use read::{CircuitError, read_mixed, reads_one_circuit};
-pub use table::{InputTable, MAX_INPUTS};
-pub use values::{Values, ValuesError, read_values, reads_one_list};
+pub use cause::{CircuitCause, CircuitError};
+pub use circuit::Mixed;
+pub use circuit_values::{
+    InputTable, OutputTable, Outputs, Receiver, Values, ValuesCause, ValuesError, read_values,
+};
+pub use evaluate::evaluates_once;
+pub use form::Form;
+pub use read::{each_text_reads_or_faults, one_operation, read_mixed, reads_what_is_said};
+pub use telling::plain;
+pub use write::write_mixed;

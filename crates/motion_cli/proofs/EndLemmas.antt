@@ -1,19 +1,20 @@
--- What is written of an answer where not all of it is.
+-- What is written of an outcome where not all of it is.
 use Rattle.std.proofs.Common.{ℕ, ◌≡◌, ◌≢◌, ◌<◌, [], length, take, drop, Option, ap, arith}
 use Rattle.std.proofs.lemmas.List.{length-drop, take-append-drop}
 use Rattle.mot_base.specs.Sink.{with_more}
-use Rattle.mixed_circuit.specs.Text.{Text}
-use Rattle.motion_cli.specs.Answer.{Answer}
-use Rattle.motion_cli.specs.End.{IsCut}
+use Rattle.text_lines.specs.Text.{Text}
+use Rattle.motion_cli.specs.Ending.{IsCut}
+use Rattle.motion_cli.specs.Outcome.{Outcome}
 
 rest_stays : (text : Text) (n : ℕ) → n < length text → drop n text ≢ []
 rest_stays text n h = λ e. let none = simp length-drop at (ap length e) in omega arith
 
-pub cut : (before after : Option Text) (answer : Answer) (n : ℕ) → n < length answer.text → after ≡ with_more before (take n answer.text) → IsCut before after answer
-cut before after answer n h e = record {
-  part = take n answer.text;
-  rest = drop n answer.text;
-  some = rest_stays answer.text n h;
-  whole = take-append-drop n answer.text;
+pub cut_at : (before after : Option Text) (end : Outcome) (text : Text) (n : ℕ) → end.text ≡ text → n < length text →
+    after ≡ with_more before (take n text) → IsCut before after end
+cut_at before after end text n same h e = record {
+  part = take n text;
+  rest = drop n text;
+  some = rest_stays text n h;
+  whole = rw same (take-append-drop n text);
   appended = e;
 }

@@ -1,7 +1,9 @@
-mod ReportLemmas
-mod EndLemmas
-mod LocalLemmas
+pub mod EndLemmas
+pub mod Built
 mod Dealing
-mod Running
-mod MotionLemmas
-mod Completeness
+pub mod Running
+pub mod ReportLemmas
+pub mod StepLemmas
+pub mod ProgramLemmas
+pub mod SettledLemmas
+pub mod AnswerLemmas

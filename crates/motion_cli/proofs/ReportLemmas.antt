@@ -1,43 +1,64 @@
--- The lines of the outputs, one statement after another.
-use Rattle.std.proofs.Common.{ℕ, ◌≡◌, ◌<◌, ◌+◌, List, [], ◌∷◌, ◌++◌, length, map, drop, get_or, Option, Some, None, zero, suc, sym, refl, ◌∙◌, ap, ap₂, subst, add-one, arith, append_assoc}
+-- The lines of outputs, one after another.
+use Rattle.std.proofs.Common.{ℕ, ◌≡◌, ◌<◌, ◌+◌, Bool, true, false, cond, List, [], ◌∷◌, ◌++◌, length, take, Option, Some, None, refl, sym, ◌∙◌, ap, subst, add-one, append_assoc}
 use Rattle.std.specs.Prelude.{slice_get, IfSome}
-use Rattle.std.proofs.lemmas.Option.{slice_get_within, get_or_from_slice_get}
-use Rattle.std.proofs.Math.Seq.{drop-cons}
-use Rattle.mixed_circuit.specs.Text.{Text}
-use Rattle.mixed_circuit.specs.Circuit.{Statement}
-use Rattle.motion_cli.specs.Report.{form_lines, output_lines}
-use Rattle.motion_cli.specs.Run.{word_of_shares}
-use Rattle.motion_cli.specs.declared.run.Shares.{Shares}
+use Rattle.std.proofs.lemmas.List.{append-nil}
+use Rattle.std.proofs.lemmas.List.Elements.{filter-append}
+use Rattle.circuit_values.specs.Table.{Told, is_receiver}
+use Rattle.circuit_values.proofs.Narrow.{some_at}
+use Rattle.mixed_circuit.proofs.ListLemmas.{take_next}
+use Rattle.text_lines.specs.Text.{Text}
+use Rattle.motion_cli.specs.declared.report.Notation.{Notation}
+use Rattle.motion_cli.specs.Report.{output_line, output_lines, told_to, party_report, parties_report}
 
-abbrev pub no_shares : Shares
-no_shares = record { first = 0; second = 0 }
+lines-append : (notation : Notation) (xs ys : List Told) →
+    output_lines notation (xs ++ ys) ≡ output_lines notation xs ++ output_lines notation ys
+lines-append notation [] ys = refl
+lines-append notation (x ∷ xs) ys =
+    ap (λ (rest : Text). output_line notation x ++ rest) (lines-append notation xs ys)
+    ∙ sym (append_assoc (output_line notation x) (output_lines notation xs) (output_lines notation ys))
 
--- the text so far and the lines of what is left are the text before and all lines
-pub record IsReportedTo (all : List Statement) (before so_far : Text) (shares : List Shares) (at : ℕ) : Type 0 where
-  pub lines : so_far ++ output_lines all (drop at all) (map word_of_shares (drop at shares)) ≡ before ++ output_lines all all (map word_of_shares shares)
+found : {X : Type 0} (o : Option X) (P : X → Type 0) (x : X) → o ≡ Some x → IfSome o P → P x
+found None P x e h = cc
+found (Some y) P x e h = (let same : y ≡ x = cc in subst P same h)
 
-rest-at : {X : Type 0} (xs : List X) (i : ℕ) (d : X) → i < length xs → drop i xs ≡ get_or xs i d ∷ drop (i + 1) xs
-rest-at xs i d h = rw (add-one, drop-cons xs i d) refl
+-- one output more
+pub lines_next : (notation : Notation) (outputs : List Told) (at : ℕ) (before after : Text) → at < length outputs →
+    before ≡ output_lines notation (take at outputs) → IfSome (slice_get outputs at) (λ output. after ≡ before ++ output_line notation output) →
+    after ≡ output_lines notation (take (at + 1) outputs)
+lines_next notation outputs at before after within kept added =
+    let here = some_at outputs at within in
+    let line = output_line notation here.0 in
+    found (slice_get outputs at) (λ output. after ≡ before ++ output_line notation output) here.0 here.1 added
+    ∙ (ap (λ (text : Text). text ++ line) kept
+    ∙ sym (ap (output_lines notation) (take_next outputs at here.0 here.1)
+    ∙ (lines-append notation (take at outputs) (here.0 ∷ []) ∙ ap (λ (text : Text). output_lines notation (take at outputs) ++ text) (append-nil line))))
 
-rest-of : {X : Type 0} (xs : List X) (i : ℕ) (x : X) → slice_get xs i ≡ Some x → drop i xs ≡ x ∷ drop (i + 1) xs
-rest-of xs i x h = rest-at xs i x (slice_get_within xs i x h) ∙ ap (λ y. y ∷ drop (i + 1) xs) (get_or_from_slice_get xs i x x h)
+told_one : (notation : Notation) (party : ℕ) (output : Told) →
+    output_lines notation (told_to party (output ∷ [])) ≡ cond (is_receiver output.to (record { 0 = party })) (output_line notation output) []
+told_one notation party output = either (is_receiver output.to (record { 0 = party }))
+  where
+    either : (b : Bool) → output_lines notation (cond b (output ∷ []) []) ≡ cond b (output_line notation output) []
+    either true = append-nil (output_line notation output)
+    either false = refl
 
-pub report_more : (all : List Statement) (before so_far : Text) (shares : List Shares) (at : ℕ) (s : Statement) → slice_get all at ≡ Some s → at < length shares
-    → IsReportedTo all before so_far shares at
-    → IsReportedTo all before (so_far ++ form_lines all s.form (word_of_shares (get_or shares at no_shares))) shares (at + 1)
-report_more all before so_far shares at s there one reported = record {
-  lines = append_assoc so_far _ _ ∙ ap (λ (lines : Text). so_far ++ lines) (sym (ap₂ (λ (ss : List Statement) (values : List ℕ). output_lines all ss values) (rest-of all at s there) (ap (λ (rest : List Shares). map word_of_shares rest) (rest-at shares at no_shares one)))) ∙ reported.lines;
-}
+-- one output more, which the party may be told
+pub told_next : (notation : Notation) (party : ℕ) (outputs : List Told) (at : ℕ) (start before after : Text) → at < length outputs →
+    before ≡ start ++ output_lines notation (told_to party (take at outputs)) →
+    IfSome (slice_get outputs at) (λ output. after ≡ before ++ cond (is_receiver output.to (record { 0 = party })) (output_line notation output) []) →
+    after ≡ start ++ output_lines notation (told_to party (take (at + 1) outputs))
+told_next notation party outputs at start before after within kept added =
+    let here = some_at outputs at within in
+    let first = told_to party (take at outputs) in
+    let line = cond (is_receiver here.0.to (record { 0 = party })) (output_line notation here.0) [] in
+    let whole : output_lines notation (told_to party (take (at + 1) outputs)) ≡ output_lines notation first ++ line =
+    ap (λ xs. output_lines notation (told_to party xs)) (take_next outputs at here.0 here.1)
+    ∙ (ap (output_lines notation) (filter-append (λ (output : Told). is_receiver output.to (record { 0 = party })) (take at outputs) (here.0 ∷ []))
+    ∙ (lines-append notation first (told_to party (here.0 ∷ [])) ∙ ap (λ (text : Text). output_lines notation first ++ text) (told_one notation party here.0))) in
+    found (slice_get outputs at) (λ output. after ≡ before ++ cond (is_receiver output.to (record { 0 = party })) (output_line notation output) []) here.0 here.1 added
+    ∙ (ap (λ (text : Text). text ++ line) kept
+    ∙ (append_assoc start (output_lines notation first) line ∙ ap (λ (text : Text). start ++ text) (sym whole)))
 
-none_within : (all : List Statement) (at : ℕ) → slice_get all at ≡ None → at < length all → ⊥
-none_within [] at e within = omega arith
-none_within (s ∷ all) zero e within = cc
-none_within (s ∷ all) (suc at) e within = none_within all at e (omega arith)
-
-pub report_next : (all : List Statement) (before so_far after : Text) (shares : List Shares) (at : ℕ) (o : Option Statement) → slice_get all at ≡ o → at < length all → at < length shares
-    → IfSome o (λ s. after ≡ so_far ++ form_lines all s.form (word_of_shares (get_or shares at no_shares)))
-    → IsReportedTo all before so_far shares at
-    → IsReportedTo all before after shares (at + 1)
-report_next all before so_far after shares at None e within one added reported = absurd (none_within all at e within)
-report_next all before so_far after shares at (Some s) e within one added reported =
-    subst (λ text. IsReportedTo all before text shares (at + 1)) (sym added) (report_more all before so_far shares at s e one reported)
+-- one party more
+pub parties_next : (notation : Notation) (outputs : List Told) (party : ℕ) →
+    parties_report notation outputs (party + 1) ≡ parties_report notation outputs party ++ party_report notation outputs party
+parties_next notation outputs party = ap (parties_report notation outputs) (add-one party)

@@ -1,8 +1,10 @@
-pub mod Words
-pub mod Report
-pub mod Answer
-pub mod End
+pub mod Commands
 pub mod Deal
+pub mod Ending
+pub mod Outcome
+pub mod Refusal
+pub mod Report
 pub mod Run
-pub mod Local
-pub mod Motion
+pub mod Steps
+pub mod Words
+pub mod Settled

@@ -1,41 +1,37 @@
--- What a command reports.
-use Rattle.std.specs.Prelude.{ℕ, List, [], ◌∷◌, ◌++◌, codes, option_map, unwrap_or, slice_get}
+-- What commands report.
+use Rattle.std.specs.Prelude.{ℕ, zero, suc, Bool, List, [], ◌∷◌, ◌++◌, codes, filter}
 use Rattle.std.specs.Fmt.{decimal}
-use Rattle.mixed_circuit.specs.Text.{Text}
-use Rattle.mixed_circuit.specs.Circuit.{Circuit, Statement}
-use Rattle.mixed_circuit.specs.declared.circuit.Form.{Form}
-use Rattle.mixed_circuit.specs.declared.circuit.Form.TheVariants.{InputA, AddA, SubA, MulA, Output}
+use Rattle.share_types.specs.Bits.{number}
+use Rattle.circuit_values.specs.Table.{Told, is_receiver}
+use Rattle.text_lines.specs.Text.{Text}
+use Rattle.motion_cli.specs.Outcome.{line, line_end}
+use Rattle.motion_cli.specs.declared.report.Notation.{Notation}
+use Rattle.motion_cli.specs.declared.report.Notation.TheVariants.{Decimal}
 
--- LF, which ends a line
-abbrev pub line_end : Text
-line_end = 10 ∷ []
+-- how the bits of an output are written
+abbrev pub written : Notation → List Bool → Text
+written Decimal bits = decimal (number bits)
 
--- the name of the value of the statement at a place
-abbrev pub name_at : List Statement → ℕ → Text
-name_at statements at = unwrap_or (option_map (λ s. s.name) (slice_get statements at)) []
+-- the line of an output: its name and its value
+abbrev pub output_line : Notation → Told → Text
+output_line notation output = output.name ++ (codes " = " ++ line (written notation output.bits))
 
--- the line of an output: the name of its value, and the number in decimal digits
-abbrev pub output_line : Text → ℕ → Text
-output_line name value = name ++ (codes " = " ++ (decimal value ++ line_end))
+-- the lines of outputs, in their order
+abbrev pub output_lines : Notation → List Told → Text
+output_lines notation [] = []
+output_lines notation (output ∷ more) = output_line notation output ++ output_lines notation more
 
--- what a form reports of its value, where names are those of all statements: an output its line
-abbrev pub form_lines : List Statement → Form → ℕ → Text
-form_lines all (InputA party) value = []
-form_lines all (AddA x y) value = []
-form_lines all (SubA x y) value = []
-form_lines all (MulA x y) value = []
-form_lines all (Output x to) value = output_line (name_at all x) value
+-- the outputs that a party is told
+abbrev pub told_to : ℕ → List Told → List Told
+told_to party outputs = filter (λ output. is_receiver output.to (record { 0 = party })) outputs
 
--- the lines of the outputs among some statements, in order, with a value for each statement
-abbrev pub output_lines : List Statement → List Statement → List ℕ → Text
-output_lines all [] values = []
-output_lines all (s ∷ more) [] = []
-output_lines all (s ∷ more) (value ∷ values) = form_lines all s.form value ++ output_lines all more values
+-- what is reported of one party: its number and the outputs that it is told
+abbrev pub party_report : Notation → List Told → ℕ → Text
+party_report notation outputs party =
+    codes "party " ++ (decimal party ++ (line_end ++ output_lines notation (told_to party outputs)))
 
--- what is reported of one party, for outputs to all
-abbrev pub party_report : List Statement → List ℕ → ℕ → Text
-party_report statements values party = codes "party " ++ (decimal party ++ (line_end ++ output_lines statements statements values))
-
--- the report of `local`: of party 0 and then of party 1
-abbrev pub local_report : Circuit → List ℕ → Text
-local_report c values = party_report c.statements values 0 ++ party_report c.statements values 1
+-- what is reported of the first parties, one after another
+abbrev pub parties_report : Notation → List Told → ℕ → Text
+parties_report notation outputs zero = []
+parties_report notation outputs (suc party) =
+    parties_report notation outputs party ++ party_report notation outputs party

@@ -1,57 +1,49 @@
--- The run of two parties on shares.
-use Rattle.std.specs.Prelude.{◌≡◌, ◌<◌, ℕ, ◌+◌, ◌-◌, nat_eq, if◌then◌else◌, List, [], ◌∷◌, take, drop, slice_get, slice_index, slice_index_or, Some}
+-- The run of two parties on shares, of the circuits that are built.
+use Rattle.std.specs.Prelude.{◌≡◌, ℕ, ◌+◌, ◌-◌, ◌==◌, ◌&&◌, Bool, true, false, nat_eq, if◌then◌else◌, List, [], ◌∷◌, length, take, slice_get, slice_index, slice_index_or, Option, Some, None, is_none}
+use Rattle.std.specs.List.{list_all}
+use Rattle.std.specs.Option.{unwrap_or}
 use Rattle.mot_base.specs.Tape.{derived_seed, share_of_tape}
 use Rattle.share_types.specs.declared.records.MultTriple.{MultTriple}
 use Rattle.share_types.specs.Sums.{word_sum, word_difference}
 use Rattle.arithmetic_gmw.specs.Shares.{opened_left, opened_right, closed_share}
-use Rattle.mixed_circuit.specs.declared.circuit.Form.{Form}
-use Rattle.mixed_circuit.specs.declared.circuit.Form.TheVariants.{InputA, AddA, SubA, MulA, Output}
-use Rattle.mixed_circuit.specs.Circuit.{Statement}
+use Rattle.mixed_circuit.specs.declared.language.Operation.{Operation}
+use Rattle.mixed_circuit.specs.declared.language.Operation.TheVariants.{InputWord, Add, Sub, Mul, Output}
+use Rattle.mixed_circuit.specs.Circuit.{Circuit, Statement, Shape}
+use Rattle.mixed_circuit.specs.Table.{inputs_of}
 use Rattle.motion_cli.specs.declared.run.Shares.{Shares}
 use Rattle.motion_cli.specs.Deal.{first_part, second_part}
+
+-- What is built.
+
+-- a statement that `local` runs: an input, a sum, a difference or a product of words, or an output to all
+abbrev pub runs_operation : Operation → Option ℕ → Bool
+runs_operation InputWord party = true
+runs_operation Add party = true
+runs_operation Sub party = true
+runs_operation Mul party = true
+runs_operation Output party = is_none party
+runs_operation _ party = false
+
+abbrev pub is_run : Shape → Bool
+is_run shape = runs_operation shape.operation shape.party
+
+-- a circuit that `local` runs: of two parties, with such statements alone
+abbrev pub is_built : Circuit → Bool
+is_built c = c.parties == 2 && list_all (λ s. is_run s.shape) c.statements
 
 -- the word that the shares of both parties stand for
 abbrev pub word_of_shares : Shares → ℕ
 word_of_shares s = word_sum s.first s.second
 
--- What the statements take.
-
--- how many inputs a form takes
-abbrev pub inputs_taken : Form → ℕ
-inputs_taken (InputA party) = 1
-inputs_taken (AddA x y) = 0
-inputs_taken (SubA x y) = 0
-inputs_taken (MulA x y) = 0
-inputs_taken (Output x to) = 0
-
--- how many triples a form takes
-abbrev pub triples_of : Form → ℕ
-triples_of (InputA party) = 0
-triples_of (AddA x y) = 0
-triples_of (SubA x y) = 0
-triples_of (MulA x y) = 1
-triples_of (Output x to) = 0
-
--- how many of something statements take, from how many each form takes
-abbrev pub count_of : (Form → ℕ) → List Statement → ℕ
-count_of f [] = 0
-count_of f (s ∷ more) = f s.form + count_of f more
-
--- how many inputs statements take
-abbrev pub count_inputs : List Statement → ℕ
-count_inputs statements = count_of inputs_taken statements
+-- how many triples an operation takes
+abbrev pub triples_taken : Operation → ℕ
+triples_taken Mul = 1
+triples_taken _ = 0
 
 -- how many triples statements take
 abbrev pub count_triples : List Statement → ℕ
-count_triples statements = count_of triples_of statements
-
--- a form whose party is one of two, and whose operands stand before it
-abbrev pub IsReady : ℕ → Form → Type 0
-IsReady before (InputA party) = party.0 < 2
-IsReady before (AddA x y) = (x < before) × (y < before)
-IsReady before (SubA x y) = (x < before) × (y < before)
-IsReady before (MulA x y) = (x < before) × (y < before)
-IsReady before (Output x to) = x < before
+count_triples [] = 0
+count_triples (s ∷ more) = triples_taken s.shape.operation + count_triples more
 
 -- What the parties make of their shares.
 
@@ -86,28 +78,55 @@ product_shares x y s t =
     let e = right_opened y s t in
     record { first = closed_share 0 s d e; second = closed_share 1 t d e }
 
--- the shares of the statement at a place
-abbrev pub shares_at : List Shares → ℕ → Shares
-shares_at shares at = slice_index_or shares at (record { first = 0; second = 0 })
+-- the shares of the statement at a place, if one is given
+abbrev pub shares_at : List Shares → Option ℕ → Shares
+shares_at shares None = record { first = 0; second = 0 }
+shares_at shares (Some at) = slice_index_or shares at (record { first = 0; second = 0 })
 
--- the shares of a form at a gate, from the number of the triple that is next, the inputs that are left and
--- the shares of the statements before it
-abbrev pub form_shares : List ℕ → ℕ → ℕ → List ℕ → List Shares → Form → Shares
-form_shares seed gate triple left before (InputA party) = input_shares seed gate party.0 (slice_index left 0)
-form_shares seed gate triple left before (AddA x y) = each_by_itself word_sum (shares_at before x) (shares_at before y)
-form_shares seed gate triple left before (SubA x y) = each_by_itself word_difference (shares_at before x) (shares_at before y)
-form_shares seed gate triple left before (MulA x y) =
-    product_shares (shares_at before x) (shares_at before y) (first_part (derived_seed seed 255) triple) (second_part (derived_seed seed 255) triple)
-form_shares seed gate triple left before (Output x to) = shares_at before x
+-- what the shares of a statement are made of: the seed of the run, its gate, the number of the triple that is next, its
+-- owner and its input, if it is one, and the shares of its operands
+pub record Given : Type 0 where
+  pub seed : List ℕ
+  pub gate : ℕ
+  pub triple : ℕ
+  pub owner : ℕ
+  pub input : ℕ
+  pub x : Shares
+  pub y : Shares
 
--- the statement at a place has the shares of its form: its gate is its place, and the inputs and the
--- triples that the statements before it take are used up
-abbrev pub HasItsShares : List Statement → List ℕ → List ℕ → List Shares → ℕ → Statement → Type 0
-HasItsShares statements inputs seed shares at s =
-    let before = take at statements in
-    slice_get shares at ≡ Some (form_shares seed at (count_triples before) (drop (count_inputs before) inputs) (take at shares) s.form)
+-- the shares that the parties make of them
+abbrev pub shares_made : Operation → Given → Shares
+shares_made InputWord v = input_shares v.seed v.gate v.owner v.input
+shares_made Add v = each_by_itself word_sum v.x v.y
+shares_made Sub v = each_by_itself word_difference v.x v.y
+shares_made Mul v =
+    product_shares v.x v.y
+    (first_part (derived_seed v.seed 255) v.triple) (second_part (derived_seed v.seed 255) v.triple)
+shares_made _ v = v.x
 
--- a run of statements on shares, under the seed of all tapes: each statement has the shares of its form
-abbrev pub IsRun : List Statement → List ℕ → List ℕ → List Shares → Type 0
-IsRun statements inputs seed shares =
-    (at : ℕ) (s : Statement) → slice_get statements at ≡ Some s → HasItsShares statements inputs seed shares at s
+-- what the shares of a statement of that shape are made of, from the shares of the statements before it
+abbrev pub given_to : Shape → List ℕ → ℕ → ℕ → ℕ → List Shares → Given
+given_to shape seed gate triple input before = record {
+  seed = seed;
+  gate = gate;
+  triple = triple;
+  owner = unwrap_or shape.party 0;
+  input = input;
+  x = shares_at before (slice_get shape.operands 0);
+  y = shares_at before (slice_get shape.operands 1);
+}
+
+-- the shares of the statement at a place, from those before it: its gate is its place, and the inputs and the triples
+-- that the statements before it take are used up
+abbrev pub shares_of_statement :
+    List Statement → List ℕ → List ℕ → List Shares → ℕ → Statement → Shares
+shares_of_statement statements inputs seed before at s =
+    shares_made s.shape.operation
+    (given_to s.shape seed at (count_triples (take at statements))
+    (slice_index inputs (length (inputs_of (take at statements)))) before)
+
+-- a run of statements on shares, under the seed of all tapes: each has the shares that the parties make for it
+pub record IsRun (statements : List Statement) (inputs seed : List ℕ) (shares : List Shares) : Type 0 where
+  pub count : length shares ≡ length statements
+  pub each : (at : ℕ) (s : Statement) → slice_get statements at ≡ Some s →
+      slice_get shares at ≡ Some (shares_of_statement statements inputs seed (take at shares) at s)

@@ -1,15 +1,17 @@
 //! What the program does with its words.
 #![tactic(auto)]
 
-mod answer;
+mod commands;
 mod deal;
 mod end;
 mod load;
-mod local;
+mod program;
+mod refusal;
 mod report;
 mod run;
+mod status;
 mod words;
 
-pub use answer::Status;
-pub use local::{local_command, motion};
-pub use words::{Command, LocalWords, read_command, read_local};
+pub use program::{local_command, motion, plain_command};
+pub use status::Status;
+pub use words::{Command, LocalWords, PlainWords, read_command, read_local, read_plain};

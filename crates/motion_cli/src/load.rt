@@ -1,30 +1,41 @@
-ghost use Rattle.std.specs.Prelude.{◌≡◌, ◌≤◌, IfOk};
-ghost use Rattle.motion_cli.specs.End.{IsLoaded};
+ghost use Rattle.std.specs.Prelude.{◌≡◌, ◌≤◌, ◌⊎◌, IfOk, IfErr};
+ghost use Rattle.mot_base.specs.Faults.{Rose};
+ghost use Rattle.motion_cli.specs.Outcome.{memory};
+ghost use Rattle.motion_cli.specs.Refusal.{outcome_of};
+ghost use Rattle.motion_cli.specs.Steps.{IsContent, IsUnloaded};
 
-use crate::answer::Answer;
-use mot_base::{FileError, Files, NoMemory};
+use crate::refusal::{FileCause, Refusal};
+use mot_base::{FileError, Files};
 use std::alloc::Global;
 
-/// What the load of a file gave.
-#[derive(Debug, Drop)]
-pub enum Loaded {
-    Content(Vec<u8>),
-    /// The command ends with this answer.
-    Refused(Answer),
-}
-
 /// Loads a file of the command.
-pub fn load<F: Files>(alloc: Global, files: &mut F, name: &str) -> Result<Loaded, NoMemory>
-    ensures loaded { IfOk result (λ loaded. IsLoaded (F.holds files.old) (F.faults files.old) (F.faults files.new) name.now loaded) }
+pub fn load<'a, F: Files>(
+    alloc: Global,
+    files: &mut F,
+    name: &'a str,
+) -> Result<Vec<u8>, Refusal<'a>>
+    ensures ok { IfOk result (λ bytes. IsContent (F.holds files.old) name.entry.now bytes.items) }
+    ensures err { IfErr result (λ refusal.
+        IsUnloaded (F.holds files.old) (Rose (F.faults files.old) (F.faults files.new))
+        name.entry.now (outcome_of refusal)
+        ⊎ (outcome_of refusal ≡ memory)) }
     ensures same { F.holds files.new ≡ F.holds files.old }
     ensures never_falls { F.faults files.old ≤ F.faults files.new }
 {
-    let cause = match files.load(alloc, name) {
-        Ok(bytes) => return Ok(Loaded::Content(bytes)),
-        Err(FileError::NoMemory) => return Err(NoMemory),
-        Err(FileError::Missing) => "missing",
-        Err(FileError::TooLong) => "too long",
-        Err(FileError::Failed) => "fault",
-    };
-    Ok(Loaded::Refused(Answer::file_refused(alloc, name, cause)?))
+    match files.load(alloc, name) {
+        Ok(bytes) => Ok(bytes),
+        Err(FileError::NoMemory) => Err(Refusal::Memory),
+        Err(FileError::Missing) => Err(Refusal::File {
+            name,
+            cause: FileCause::Missing,
+        }),
+        Err(FileError::TooLong) => Err(Refusal::File {
+            name,
+            cause: FileCause::TooLong,
+        }),
+        Err(FileError::Failed) => Err(Refusal::File {
+            name,
+            cause: FileCause::Fault,
+        }),
+    }
 }

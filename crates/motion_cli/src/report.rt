@@ -1,62 +1,132 @@
-ghost use Rattle.std.specs.Prelude.{◌≡◌, ◌<◌, ◌++◌, length, map, slice_get, IfOk, IfSome, OnOk, string_bytes};
-ghost use Rattle.motion_cli.specs.Report.{form_lines, output_lines, party_report, local_report};
-ghost use Rattle.motion_cli.specs.Run.{word_of_shares};
+ghost use Rattle.std.specs.Prelude.{◌≡◌, ◌<◌, ◌≤◌, ◌++◌, All, length, slice_get, [], IfOk, IfSome, OnOk, string_bytes, if◌then◌else◌};
+ghost use Rattle.circuit_values.specs.Table.{is_receiver};
+ghost use Rattle.motion_cli.specs.Report.{output_line, output_lines, told_to, party_report, parties_report};
 
-use crate::run::Shares;
-use mixed_circuit::{Form, Mixed};
+use circuit_values::{Outputs, Receiver, number_of};
+use mot_base::{NoMemory, Party};
 use std::alloc::{AllocError, Global};
 use std::fmt::Write;
 
-/// The report of a run of two parties, from their shares of the value of each statement.
-pub fn local_report_of(
+/// How the values of outputs are written.
+#[derive(Clone, Copy, Debug, PartialEq, Eq)]
+pub enum Notation {
+    /// In decimal digits.
+    Decimal,
+}
+
+/// The report of all outputs, whoever is told them.
+pub(crate) fn report_all(
     alloc: Global,
-    circuit: &Mixed,
-    shares: &[Shares],
-) -> Result<String, AllocError>
-    requires { length shares.now ≡ length circuit.now.statements }
-    ensures { IfOk result (λ text. string_bytes text ≡ local_report circuit.now (map word_of_shares shares.now)) }
+    notation: Notation,
+    outputs: &Outputs,
+) -> Result<String, NoMemory>
+    requires { All (λ t. length t.bits ≤ 64) outputs.now }
+    ensures { IfOk result (λ text. string_bytes text ≡ output_lines notation outputs.now) }
 {
     let mut text = String::new(alloc);
-    push_party(&mut text, circuit, shares, 0)?;
-    push_party(&mut text, circuit, shares, 1)?;
+    for at in 0..outputs.len() {
+        push_output(&mut text, notation, outputs, at)?;
+    }
+    Ok(text)
+}
+
+/// The report of the first parties, one after another, each with the outputs that it is told.
+pub(crate) fn report_parties(
+    alloc: Global,
+    notation: Notation,
+    outputs: &Outputs,
+    parties: u8,
+) -> Result<String, NoMemory>
+    requires { All (λ t. length t.bits ≤ 64) outputs.now }
+    ensures { IfOk result (λ text. string_bytes text ≡ parties_report notation outputs.now parties) }
+{
+    let mut text = String::new(alloc);
+    for party in 0..parties {
+        push_party(&mut text, notation, outputs, Party(party))?;
+    }
     Ok(text)
 }
 
 /// Adds what is reported of a party.
 fn push_party(
     text: &mut String,
-    circuit: &Mixed,
-    shares: &[Shares],
-    party: u8,
+    notation: Notation,
+    outputs: &Outputs,
+    party: Party,
 ) -> Result<(), AllocError>
-    requires { length shares.now ≡ length circuit.now.statements }
-    ensures { OnOk result (string_bytes text.new ≡ string_bytes text.old ++ party_report circuit.now.statements (map word_of_shares shares.now) party) }
+    requires { All (λ t. length t.bits ≤ 64) outputs.now }
+    ensures { OnOk result
+        (string_bytes text.new ≡ string_bytes text.old ++ party_report notation outputs.now party.0) }
 {
-    write!(text, "party {party}\n")?;
-    push_outputs(text, circuit, shares)
+    let number = party.0;
+    write!(text, "party {number}\n")?;
+    push_told(text, notation, outputs, party)
 }
 
-/// Adds the lines of the outputs.
-fn push_outputs(text: &mut String, circuit: &Mixed, shares: &[Shares]) -> Result<(), AllocError>
-    requires { length shares.now ≡ length circuit.now.statements }
-    ensures { OnOk result (string_bytes text.new ≡ string_bytes text.old ++ output_lines circuit.now.statements circuit.now.statements (map word_of_shares shares.now)) }
+/// Adds the lines of the outputs that a party is told.
+fn push_told(
+    text: &mut String,
+    notation: Notation,
+    outputs: &Outputs,
+    party: Party,
+) -> Result<(), AllocError>
+    requires { All (λ t. length t.bits ≤ 64) outputs.now }
+    ensures { OnOk result
+        (string_bytes text.new
+        ≡ string_bytes text.old ++ output_lines notation (told_to party.0 outputs.now)) }
 {
-    for at in 0..circuit.len() {
-        push_value(text, circuit, at, shares[at as usize])?;
+    for at in 0..outputs.len() {
+        push_if_told(text, notation, outputs, at, party)?;
     }
     Ok(())
 }
 
-/// Adds what is reported of the value of a statement: an output is reported by the name of its value.
-fn push_value(text: &mut String, circuit: &Mixed, at: u32, shares: Shares) -> Result<(), AllocError>
-    requires { at < length circuit.now.statements }
-    ensures { OnOk result (IfSome (slice_get circuit.now.statements at) (λ s.
-        string_bytes text.new ≡ string_bytes text.old ++ form_lines circuit.now.statements s.form (word_of_shares shares))) }
+/// Adds the line of an output, if the party is told it.
+fn push_if_told(
+    text: &mut String,
+    notation: Notation,
+    outputs: &Outputs,
+    at: u32,
+    party: Party,
+) -> Result<(), AllocError>
+    requires at { at < length outputs.now }
+    requires width { All (λ t. length t.bits ≤ 64) outputs.now }
+    ensures { OnOk result (IfSome (slice_get outputs.now at) (λ output.
+        string_bytes text.new
+        ≡ string_bytes text.old
+        ++ (if is_receiver output.to party then output_line notation output else []))) }
 {
-    if let Form::Output { x, .. } = circuit.form(at) {
-        let name = circuit.name(x);
-        let value = shares.word();
-        write!(text, "{name} = {value}\n")?;
+    if is_told(outputs.receiver(at), party) {
+        push_output(text, notation, outputs, at)
+    } else {
+        Ok(())
     }
-    Ok(())
+}
+
+/// Whether a receiver is a party, or all.
+fn is_told(to: Receiver, party: Party) -> bool
+    ensures { result ≡ is_receiver to party }
+{
+    match to {
+        Receiver::All => true,
+        Receiver::One(other) => other == party,
+    }
+}
+
+/// Adds the line of an output.
+fn push_output(
+    text: &mut String,
+    notation: Notation,
+    outputs: &Outputs,
+    at: u32,
+) -> Result<(), AllocError>
+    requires at { at < length outputs.now }
+    requires width { All (λ t. length t.bits ≤ 64) outputs.now }
+    ensures { OnOk result (IfSome (slice_get outputs.now at) (λ output.
+        string_bytes text.new ≡ string_bytes text.old ++ output_line notation output)) }
+{
+    let name = outputs.name(at);
+    let Notation::Decimal = notation;
+    let value = number_of(outputs.bits(at));
+    write!(text, "{name} = {value}\n")
 }

@@ -1,11 +1,16 @@
-ghost use Rattle.std.specs.Prelude.{◌≡◌, ◌<◌, ◌≤◌, [], ◌∷◌, length, map, IfOk};
-ghost use Rattle.arithmetic_gmw.specs.Laws.{IsTriple};
+ghost use Rattle.std.specs.Prelude.{◌≡◌, ◌<◌, ◌≤◌, ◌==◌, ◌&&◌, List, [], ◌∷◌, length, map, slice_get, slice_index, true, IfOk, IfSome};
+ghost use Rattle.std.specs.List.{list_all};
+ghost use Rattle.mot_base.specs.Limits.{most_gates};
 ghost use Rattle.share_types.specs.Sums.{word_sum, word_difference, word_product};
-ghost use Rattle.mixed_circuit.specs.Eval.{form_value, inputs_behind, evaluated};
-ghost use Rattle.motion_cli.specs.Run.{word_of_shares, count_inputs, inputs_taken, triples_of, IsReady, input_shares, each_by_itself, left_opened, right_opened, product_shares, form_shares, IsRun};
+ghost use Rattle.arithmetic_gmw.specs.Laws.{IsTriple};
+ghost use Rattle.mixed_circuit.specs.Circuit.{Statement, shape_of};
+ghost use Rattle.mixed_circuit.specs.Said.{AreEarlier};
+ghost use Rattle.mixed_circuit.specs.Eval.{inputs_taken, value_made, seen_of, IsEvaluated};
+ghost use Rattle.motion_cli.specs.Run.{is_run, is_built, triples_taken, word_of_shares, input_shares, each_by_itself, left_opened, right_opened, product_shares, shares_made, given_to, IsRun};
 
 use crate::deal::{DealtTriple, dealt_triple};
 use arithmetic_gmw::{add, mul_close, mul_open, share_out, sub};
+use circuit_values::Receiver;
 use mixed_circuit::{Form, Mixed};
 use mot_base::{NoMemory, Party, Seed, derive};
 use std::alloc::Global;
@@ -26,31 +31,93 @@ impl Shares {
     }
 }
 
-/// Runs a circuit of two parties on shares, and gives the shares of each statement's value in order. The
-/// inputs are those of the input statements in order, and the seed is what the parties' tapes and the
-/// dealer's are derived from.
+/// Whether `local` runs a circuit: one of two parties, of inputs, sums, differences and products of words, and
+/// outputs to all.
+pub(crate) fn is_built(circuit: &Mixed) -> bool
+    ensures { result ≡ is_built circuit.now }
+{
+    if circuit.parties() != 2 {
+        return false;
+    }
+    for at in 0..circuit.len() {
+        if !is_run(circuit.form(at)) {
+            return false;
+        }
+    }
+    true
+}
+
+/// Whether `local` runs a statement of that form.
+fn is_run(form: Form) -> bool
+    ensures { result ≡ is_run (shape_of form) }
+{
+    matches!(
+        form,
+        Form::InputA { .. }
+            | Form::AddA { .. }
+            | Form::SubA { .. }
+            | Form::MulA { .. }
+            | Form::Output {
+                to: Receiver::All,
+                ..
+            }
+    )
+}
+
+/// Runs a circuit on shares, and gives the shares of each statement's value in order. The inputs are those of
+/// the input statements in order, and the seed is what the parties' tapes and the dealer's are derived from.
 pub(crate) fn run_on_shares(
     alloc: Global,
     circuit: &Mixed,
     inputs: &[u64],
     seed: &Seed,
 ) -> Result<Vec<Shares>, NoMemory>
-    requires parties { circuit.now.parties ≡ 2 }
-    requires inputs { count_inputs circuit.now.statements ≤ length inputs.now }
+    requires { is_built circuit.now ≡ true }
     ensures run { IfOk result (λ shares. IsRun circuit.now.statements inputs.now seed.now.0 shares.items) }
-    ensures values { IfOk result (λ shares. map word_of_shares shares.items ≡ evaluated circuit.now.statements inputs.now) }
+    ensures values { IfOk result (λ shares.
+        IsEvaluated circuit.now.statements inputs.now (map word_of_shares shares.items)) }
 {
     let mut shares = Vec::with_capacity(alloc, circuit.len() as usize)?;
-    let mut left = inputs;
+    let mut taken = 0;
     let mut triple = 0;
     for gate in 0..circuit.len() {
         let form = circuit.form(gate);
-        let next = shares_of(alloc, form, seed, gate, triple, left, shares.as_slice())?;
+        let input = number_at(inputs, taken);
+        let next = shares_of(alloc, form, seed, gate, triple, input, shares.as_slice())?;
         shares.push(next)?;
-        left = inputs_left(left, form);
-        triple += triples_of(form);
+        taken += inputs_taken(form);
+        triple += triples_taken(form);
     }
     Ok(shares)
+}
+
+/// How many inputs a statement of that form takes.
+fn inputs_taken(form: Form) -> usize
+    ensures value { result ≡ inputs_taken (shape_of form) }
+    ensures most { result ≤ 1 }
+{
+    match form {
+        Form::InputA { .. } | Form::InputB { .. } | Form::InputY { .. } => 1,
+        _ => 0,
+    }
+}
+
+/// The number at a place, and 0 where there is none.
+fn number_at(numbers: &[u64], at: usize) -> u64
+    ensures { result ≡ slice_index numbers.now at }
+{
+    numbers.get(at).copied().unwrap_or(0)
+}
+
+/// How many triples a statement of that form takes.
+fn triples_taken(form: Form) -> u32
+    ensures value { result ≡ triples_taken (shape_of form).operation }
+    ensures most { result ≤ 1 }
+{
+    match form {
+        Form::MulA { .. } => 1,
+        _ => 0,
+    }
 }
 
 /// The session of a run: there is no other with its tapes.
@@ -59,25 +126,30 @@ const SESSION: u32 = 0;
 /// The label under which the dealer's tape is derived. A party's is its number.
 const DEALER: u8 = 255;
 
-/// The shares of a form's value at a gate, from the inputs that are left, the number of the triple that
-/// is next and the shares of the statements before it.
+/// The shares of a statement's value at a gate, from the number of the triple that is next, the statement's
+/// input, if it is one, and the shares of the statements before it.
 fn shares_of(
     alloc: Global,
     form: Form,
     seed: &Seed,
     gate: u32,
     triple: u32,
-    left: &[u64],
+    input: u64,
     before: &[Shares],
 ) -> Result<Shares, NoMemory>
-    requires gate { gate < 4194304 }
-    requires ready { IsReady (length before.now) form }
-    requires inputs { inputs_taken form ≤ length left.now }
-    ensures shares { IfOk result (λ s. s ≡ form_shares seed.now.0 gate triple left.now before.now form) }
-    ensures value { IfOk result (λ s. word_of_shares s ≡ form_value left.now (map word_of_shares before.now) form) }
+    requires gate { gate < most_gates }
+    requires run { is_run (shape_of form) ≡ true }
+    requires operands { AreEarlier (length before.now) (shape_of form).operands }
+    requires party { IfSome (shape_of form).party (λ party. party < 2) }
+    ensures shares { IfOk result (λ s.
+        s ≡ shares_made (shape_of form).operation
+        (given_to (shape_of form) seed.now.0 gate triple input before.now)) }
+    ensures value { IfOk result (λ s. (statements : List Statement) →
+        word_of_shares s ≡ value_made (shape_of form).operation
+        (seen_of statements (shape_of form) input (map word_of_shares before.now) 64)) }
 {
     match form {
-        Form::InputA { party } => shared_input(alloc, left[0], seed, gate, party),
+        Form::InputA { party } => shared_input(alloc, input, seed, gate, party),
         Form::AddA { x, y } => Ok(sum(before[x as usize], before[y as usize])),
         Form::SubA { x, y } => Ok(difference(before[x as usize], before[y as usize])),
         Form::MulA { x, y } => {
@@ -85,28 +157,7 @@ fn shares_of(
             Ok(product(before[x as usize], before[y as usize], dealt))
         }
         Form::Output { x, .. } => Ok(before[x as usize]),
-    }
-}
-
-/// The inputs that are left behind a form.
-fn inputs_left(inputs: &[u64], form: Form) -> &[u64]
-    requires { inputs_taken form ≤ length inputs.now }
-    ensures { result.now ≡ inputs_behind inputs.entry.now form }
-{
-    match form {
-        Form::InputA { .. } => &inputs[1..],
-        _ => inputs,
-    }
-}
-
-/// How many triples a form takes.
-fn triples_of(form: Form) -> u32
-    ensures value { result ≡ triples_of form }
-    ensures most { result ≤ 1 }
-{
-    match form {
-        Form::MulA { .. } => 1,
-        _ => 0,
+        _ => unreachable!(),
     }
 }
 
@@ -118,7 +169,7 @@ fn shared_input(
     gate: u32,
     owner: Party,
 ) -> Result<Shares, NoMemory>
-    requires gate { gate < 4194304 }
+    requires gate { gate < most_gates }
     requires owner { owner.0 < 2 }
     ensures shares { IfOk result (λ s. s ≡ input_shares seed.now.0 gate owner.0 input) }
     ensures value { IfOk result (λ s. word_of_shares s ≡ input) }

@@ -13,6 +13,8 @@ static FILES: [(&str, &str); 3] = [
 
 const REPORT: &[&str] = &["local", "product", "both", SEED];
 
+const PLAIN: &[&str] = &["plain", "product", "both"];
+
 const BAD_CIRCUIT: &[&str] = &["local", "empty", "both", SEED];
 
 struct Writing {
@@ -23,7 +25,7 @@ struct Writing {
     status: u8,
 }
 
-static WRITINGS: [Writing; 9] = [
+static WRITINGS: [Writing; 12] = [
     // a report that is cut is not done
     Writing {
         words: REPORT,
@@ -56,6 +58,27 @@ static WRITINGS: [Writing; 9] = [
     Writing {
         words: REPORT,
         room: 30,
+        failing_writes: &[1],
+        written: "",
+        status: 9,
+    },
+    Writing {
+        words: PLAIN,
+        room: 7,
+        failing_writes: &[],
+        written: "z = 42\n",
+        status: 0,
+    },
+    Writing {
+        words: PLAIN,
+        room: 6,
+        failing_writes: &[],
+        written: "z = 42",
+        status: 9,
+    },
+    Writing {
+        words: PLAIN,
+        room: 7,
         failing_writes: &[1],
         written: "",
         status: 9,

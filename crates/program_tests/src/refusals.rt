@@ -1,9 +1,10 @@
 //! Words and texts that are refused, each with its line and its status.
-use crate::machine::{Machine, SEED, run_over};
+use crate::machine::{End, Machine, SEED, run_over};
 use mot_base::{MAX_FILE_LENGTH, MemFiles, MemSink};
+use std::alloc::Global;
 use std::test::Fail;
 
-static FILES: [(&str, &str); 8] = [
+static FILES: [(&str, &str); 10] = [
     (
         "product",
         "mixed 1\nparties 2\nx = input 0 A\ny = input 1 A\nz = mul x y\noutput z all\n",
@@ -15,15 +16,28 @@ static FILES: [(&str, &str); 8] = [
     ("twice", "x = 6\ny = 7\nx = 6\n"),
     ("empty", ""),
     ("three_parties", "mixed 1\nparties 3\n"),
+    (
+        "shifted",
+        "mixed 1\nparties 2\nx = input 0 A\nz = mul_const x 2\noutput z all\n",
+    ),
+    (
+        "unknown",
+        "mixed 1\nparties 2\nx = input 0 A\n# a comment\nz = mul x y\noutput w all\n",
+    ),
 ];
 
-static WORDS: [&[&str]; 14] = [
+static WORDS: [&[&str]; 19] = [
     &[],
+    &["plain"],
+    &["plain", "product"],
+    &["plain", "product", "both", SEED],
+    &["plain", "-product", "both"],
+    &["plain", "product", ""],
+    &["Plain", "product", "both"],
     &["local"],
     &["local", "product", "both"],
     &["local", "product", "both", SEED, SEED],
     &["product", "both", SEED],
-    &["plain", "product", "both"],
     &["Local", "product", "both", SEED],
     &["", "product", "both", SEED],
     &["local", "", "both", SEED],
@@ -68,6 +82,7 @@ struct Refusal {
     status: u8,
 }
 
+// the refusals of each command
 static REFUSALS: [Refusal; 17] = [
     // files that are missing
     Refusal {
@@ -113,6 +128,51 @@ static REFUSALS: [Refusal; 17] = [
         line: "file both: fault\n",
         status: 8,
     },
+    // circuits: the line, and the first cause of that line
+    Refusal {
+        circuit: "empty",
+        values: "both",
+        failing_loads: &[],
+        line: "circuit empty: line 1: Header\n",
+        status: 2,
+    },
+    Refusal {
+        circuit: "unknown",
+        values: "both",
+        failing_loads: &[],
+        line: "circuit unknown: line 5: NameUnknown\n",
+        status: 2,
+    },
+    // values
+    Refusal {
+        circuit: "product",
+        values: "one",
+        failing_loads: &[],
+        line: "values one: line 1: Missing\n",
+        status: 3,
+    },
+    Refusal {
+        circuit: "product",
+        values: "three",
+        failing_loads: &[],
+        line: "values three: line 3: NameUnknown\n",
+        status: 3,
+    },
+    Refusal {
+        circuit: "product",
+        values: "wide",
+        failing_loads: &[],
+        line: "values wide: line 2: TooWide\n",
+        status: 3,
+    },
+    Refusal {
+        circuit: "product",
+        values: "twice",
+        failing_loads: &[],
+        line: "values twice: line 3: Twice\n",
+        status: 3,
+    },
+    // a load of the circuit that fails, before values that are missing
     Refusal {
         circuit: "product",
         values: "nothing",
@@ -120,65 +180,15 @@ static REFUSALS: [Refusal; 17] = [
         line: "file product: fault\n",
         status: 8,
     },
-    // circuits
+    // a circuit that is missing, before a load of the values that would fail
     Refusal {
-        circuit: "empty",
+        circuit: "nothing",
         values: "both",
-        failing_loads: &[],
-        line: "circuit empty: refused\n",
-        status: 2,
-    },
-    Refusal {
-        circuit: "three_parties",
-        values: "both",
-        failing_loads: &[],
-        line: "circuit three_parties: refused\n",
-        status: 2,
-    },
-    // values
-    Refusal {
-        circuit: "product",
-        values: "empty",
-        failing_loads: &[],
-        line: "values empty: refused\n",
-        status: 3,
-    },
-    Refusal {
-        circuit: "product",
-        values: "one",
-        failing_loads: &[],
-        line: "values one: refused\n",
-        status: 3,
-    },
-    Refusal {
-        circuit: "product",
-        values: "three",
-        failing_loads: &[],
-        line: "values three: refused\n",
-        status: 3,
-    },
-    Refusal {
-        circuit: "product",
-        values: "wide",
-        failing_loads: &[],
-        line: "values wide: refused\n",
-        status: 3,
-    },
-    Refusal {
-        circuit: "product",
-        values: "twice",
-        failing_loads: &[],
-        line: "values twice: refused\n",
-        status: 3,
-    },
-    // several causes
-    Refusal {
-        circuit: "empty",
-        values: "nothing",
-        failing_loads: &[],
+        failing_loads: &[2],
         line: "file nothing: missing\n",
         status: 8,
     },
+    // a load of the values that fails, or values that are missing, before a fault of the circuit
     Refusal {
         circuit: "empty",
         values: "both",
@@ -187,18 +197,84 @@ static REFUSALS: [Refusal; 17] = [
         status: 8,
     },
     Refusal {
-        circuit: "three_parties",
+        circuit: "empty",
+        values: "nothing",
+        failing_loads: &[],
+        line: "file nothing: missing\n",
+        status: 8,
+    },
+    // a fault of the circuit, before a fault of the values
+    Refusal {
+        circuit: "unknown",
         values: "wide",
         failing_loads: &[],
-        line: "circuit three_parties: refused\n",
+        line: "circuit unknown: line 5: NameUnknown\n",
         status: 2,
     },
 ];
+
+// the refusals of `local` alone
+static NOT_BUILT: [Refusal; 5] = [
+    // circuits of three parties, or with another statement
+    Refusal {
+        circuit: "three_parties",
+        values: "both",
+        failing_loads: &[],
+        line: "circuit three_parties: not built\n",
+        status: 2,
+    },
+    Refusal {
+        circuit: "shifted",
+        values: "one",
+        failing_loads: &[],
+        line: "circuit shifted: not built\n",
+        status: 2,
+    },
+    // values that are missing, before a circuit that is not built
+    Refusal {
+        circuit: "shifted",
+        values: "nothing",
+        failing_loads: &[],
+        line: "file nothing: missing\n",
+        status: 8,
+    },
+    // a circuit that is not built, before a fault of the values
+    Refusal {
+        circuit: "three_parties",
+        values: "wide",
+        failing_loads: &[],
+        line: "circuit three_parties: not built\n",
+        status: 2,
+    },
+    Refusal {
+        circuit: "shifted",
+        values: "empty",
+        failing_loads: &[],
+        line: "circuit shifted: not built\n",
+        status: 2,
+    },
+];
+
+impl Refusal {
+    /// How a command ends that has to refuse so.
+    fn end(&self, alloc: Global, words: &[&str]) -> Result<End, Fail> {
+        let machine = Machine {
+            files: &FILES,
+            failing_loads: self.failing_loads,
+            room: 1000,
+            failing_writes: &[],
+        };
+        machine.run(alloc, words)
+    }
+}
 
 #[test]
 fn the_command_refuses_its_own_name(rt: HostRuntime) -> Result<(), Fail> {
     let words = ["local", "product", "both", SEED];
     let end = Machine::new(&FILES).run_local(rt.alloc(), &words)?;
+    assert_eq!(rt; end.written(), b"usage\n".as_slice());
+    assert_eq!(rt; end.status, 1);
+    let end = Machine::new(&FILES).run_plain(rt.alloc(), &["plain", "product", "both"])?;
     assert_eq!(rt; end.written(), b"usage\n".as_slice());
     assert_eq!(rt; end.status, 1);
     Ok(())
@@ -207,14 +283,26 @@ fn the_command_refuses_its_own_name(rt: HostRuntime) -> Result<(), Fail> {
 #[test]
 fn the_first_cause_is_told(rt: HostRuntime) -> Result<(), Fail> {
     for refusal in &REFUSALS {
-        let machine = Machine {
-            files: &FILES,
-            failing_loads: refusal.failing_loads,
-            room: 1000,
-            failing_writes: &[],
-        };
-        let words = ["local", refusal.circuit, refusal.values, SEED];
-        let end = machine.run(rt.alloc(), &words)?;
+        let end = refusal.end(rt.alloc(), &["plain", refusal.circuit, refusal.values])?;
+        assert_eq!(rt; end.written(), refusal.line.as_bytes(), "{}", refusal.line);
+        assert_eq!(rt; end.status, refusal.status, "{}", refusal.line);
+        let end = refusal.end(
+            rt.alloc(),
+            &["local", refusal.circuit, refusal.values, SEED],
+        )?;
+        assert_eq!(rt; end.written(), refusal.line.as_bytes(), "{}", refusal.line);
+        assert_eq!(rt; end.status, refusal.status, "{}", refusal.line);
+    }
+    Ok(())
+}
+
+#[test]
+fn circuits_that_are_not_run_on_shares_are_told(rt: HostRuntime) -> Result<(), Fail> {
+    for refusal in &NOT_BUILT {
+        let end = refusal.end(
+            rt.alloc(),
+            &["local", refusal.circuit, refusal.values, SEED],
+        )?;
         assert_eq!(rt; end.written(), refusal.line.as_bytes(), "{}", refusal.line);
         assert_eq!(rt; end.status, refusal.status, "{}", refusal.line);
     }

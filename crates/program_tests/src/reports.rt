@@ -111,3 +111,61 @@ fn the_command_is_called_without_its_name(rt: HostRuntime) -> Result<(), Fail> {
     }
     Ok(())
 }
+
+// what the plain evaluation of circuits prints, and of those that `local` does not run
+static EVALUATIONS: [Report; 5] = [
+    Report {
+        circuit: "mixed 1\nparties 2\nx = input 0 A\ny = input 1 A\nz = mul x y\noutput z all\n",
+        values: "x = 6\ny = 7\n",
+        printed: "z = 42\n",
+    },
+    // three parties, and an output of one of them: each output is printed once
+    Report {
+        circuit: "mixed 1\nparties 3\nx = input 2 A\ny = mul_const x 10\noutput y 1\noutput x all\n",
+        values: "x = 0x1F\n",
+        printed: "y = 310\nx = 31\n",
+    },
+    // Boolean vectors
+    Report {
+        circuit: "mixed 1\nparties 2\nx = input 0 B 4\ny = input 1 B 4\nz = and x y\noutput z all\n",
+        values: "x = 12\ny = 10\n",
+        printed: "z = 8\n",
+    },
+    // no output
+    Report {
+        circuit: "mixed 1\nparties 2\nx = input 0 A\n",
+        values: "x = 6\n",
+        printed: "",
+    },
+    // no statement
+    Report {
+        circuit: "mixed 1\nparties 8\n",
+        values: "",
+        printed: "",
+    },
+];
+
+#[test]
+fn the_plain_evaluation_is_printed(rt: HostRuntime) -> Result<(), Fail> {
+    for report in &EVALUATIONS {
+        let files = [("c", report.circuit), ("v", report.values)];
+        let machine = Machine::new(&files);
+        let end = machine.run(rt.alloc(), &["plain", "c", "v"])?;
+        assert_eq!(rt;
+            end.written(),
+            report.printed.as_bytes(),
+            "{}",
+            report.circuit
+        );
+        assert_eq!(rt; end.status, 0, "{}", report.circuit);
+        let end = machine.run_plain(rt.alloc(), &["c", "v"])?;
+        assert_eq!(rt;
+            end.written(),
+            report.printed.as_bytes(),
+            "{}",
+            report.circuit
+        );
+        assert_eq!(rt; end.status, 0, "{}", report.circuit);
+    }
+    Ok(())
+}

@@ -4,4 +4,6 @@
 #[cfg(test)]
 mod circuits;
 #[cfg(test)]
+mod plain;
+#[cfg(test)]
 mod values;

@@ -1,149 +1,286 @@
 //! Texts of values for tables of inputs.
-ghost use Rattle.std.specs.Prelude.{◌≡◌, ◌≤◌, ◌+◌, ◌∷◌, [], IfOk, length, map};
-ghost use Rattle.mixed_circuit.specs.Table.{AreNamedApart};
+ghost use Rattle.std.specs.Prelude.{◌≡◌, ◌≤◌, ◌∷◌, [], IfOk, length, map};
+ghost use Rattle.mot_base.specs.Limits.{most_file_bytes};
+ghost use Rattle.circuit_values.specs.Table.{AreNamedApart};
 
-use mixed_circuit::{InputTable, ValuesError, read_values};
-use mot_base::{NoMemory, Party};
+use circuit_values::{InputTable, ValuesCause, ValuesError, read_values};
+use mot_base::{MAX_FILE_LENGTH, NoMemory, Party};
 use std::alloc::Global;
 use std::test::Fail;
 
-/// A table of a word `x` and a vector `y` of four bits.
-fn word_and_vector(alloc: Global) -> Result<InputTable, NoMemory>
+/// A table of a word `x`, a vector `y` of four bits, and a vector `z` of a hundred bits.
+fn table(alloc: Global) -> Result<InputTable, NoMemory>
     ensures apart { IfOk result (λ inputs. AreNamedApart inputs) }
-    ensures widths { IfOk result (λ inputs. map (λ i. i.width) inputs ≡ 64 ∷ 4 ∷ []) }
+    ensures widths { IfOk result (λ inputs. map (λ i. i.width) inputs ≡ 64 ∷ 4 ∷ 100 ∷ []) }
 {
     let mut inputs = InputTable::new(alloc);
     inputs.push("x", Party(0), 64)?;
     inputs.push("y", Party(1), 4)?;
+    inputs.push("z", Party(0), 100)?;
     Ok(inputs)
 }
 
-/// The values of `x` and `y` that a text reads as.
-fn read_word_and_vector(alloc: Global, text: &[u8]) -> Result<Option<(u64, u64)>, NoMemory>
-    requires size { length text.now ≤ 67108864 }
+/// The first line that shows a cause, with that cause, if one does.
+fn fault_of(
+    alloc: Global,
+    text: &[u8],
+    owner: Option<Party>,
+) -> Result<Option<(u32, ValuesCause)>, NoMemory>
+    requires { length text.now ≤ most_file_bytes }
 {
-    let inputs = word_and_vector(alloc)?;
-    match read_values(alloc, text, &inputs, None) {
-        Ok(values) => {
-            let x = values.bits(0, 0, 64);
-            let y = values.bits(1, 0, 4);
-            Ok(Some((x.word, y.word)))
-        }
-        Err(ValuesError::Refused) => Ok(None),
+    let inputs = table(alloc)?;
+    match read_values(alloc, text, &inputs, owner) {
+        Ok(_) => Ok(None),
+        Err(ValuesError::At { line, cause }) => Ok(Some((line, cause))),
         Err(ValuesError::NoMemory) => Err(NoMemory),
     }
 }
 
-static TEXTS: [(&[u8], Option<(u64, u64)>); 37] = [
-    (b"x = 6\ny = 7\n", Some((6, 7))),
-    (b"y = 7\nx = 6\n", Some((6, 7))),
-    // blanks, blank lines and the end of the last line
-    (b"x = 6\ny = 7", Some((6, 7))),
-    (b"\n \t\r\nx = 6\n\n\ny = 7\n\n", Some((6, 7))),
-    (b"x = 6\r\ny = 7\r\n", Some((6, 7))),
-    (b"\tx\t=\t6\ny \r =  \t7 ", Some((6, 7))),
-    (b"x = 6 y = 7", None),
-    (b"x\n=\n6\ny = 7", None),
-    // numbers
-    (
-        b"x = 18446744073709551615\ny = 0",
-        Some((18_446_744_073_709_551_615, 0)),
-    ),
-    (b"x = 18446744073709551616\ny = 0", None),
-    (
-        b"x = 00000000000000000000000000000000006\ny = 07",
-        Some((6, 7)),
-    ),
-    (b"x = 6\ny = 15", Some((6, 15))),
-    (b"x = 6\ny = 16", None),
-    (b"x = 6\ny = 18446744073709551616", None),
-    (b"x = +6\ny = 7", None),
-    (b"x = -6\ny = 7", None),
-    (b"x = 6a\ny = 7", None),
-    (b"x = 6.0\ny = 7", None),
-    (b"x = 0x10\ny = 7", None),
-    (b"x = 0X10\ny = 7", None),
-    (b"x = y\ny = 7", None),
-    // words
-    (b"x=6\ny = 7", None),
-    (b"x =6\ny = 7", None),
-    (b"x == 6\ny = 7", None),
-    (b"x : 6\ny = 7", None),
-    (b"x 6\ny = 7", None),
-    (b"x =\ny = 7", None),
-    (b"= 6\ny = 7", None),
-    (b"x = 6 6\ny = 7", None),
-    // names
-    (b"x = 6\nz = 7", None),
-    (b"X = 6\ny = 7", None),
-    (b"x = 6\ny = 7\nz = 8", None),
-    (b"x = 6\ny = 7\nx = 6", None),
-    (b"x = 6", None),
-    (b"", None),
-    // bytes
-    (b"x = 6\ny = 7\n\x7f", None),
-    (b"x = 6\ny = 7 # a comment", None),
-];
-
-#[test]
-fn a_text_gives_each_input_one_value(rt: HostRuntime) -> Result<(), Fail> {
-    for (text, values) in &TEXTS {
-        assert!(rt; text.len() <= 67_108_864);
-        let read = read_word_and_vector(rt.alloc(), text);
-        assert_eq!(rt; read, Ok(*values), "{text:?}");
-    }
-    Ok(())
-}
-
-/// Some bits of the word that a text gives the only input.
-fn read_bits(alloc: Global, text: &[u8], at: u32, width: u8) -> Result<u64, Fail>
-    requires size { length text.now ≤ 67108864 }
-    requires some { 1 ≤ width }
-    requires most { at + width ≤ 64 }
+/// The words of `x` and `y`, and the low and the high word of `z`.
+fn words_of(alloc: Global, text: &[u8]) -> Result<(u64, u64, u64, u64), Fail>
+    requires { length text.now ≤ most_file_bytes }
 {
-    let mut inputs = InputTable::new(alloc);
-    inputs.push("x", Party(0), 64)?;
+    let inputs = table(alloc)?;
     let values = read_values(alloc, text, &inputs, None)?;
-    Ok(values.bits(0, at, width).word)
+    let x = values.bits(0, 0, 64);
+    let y = values.bits(1, 0, 4);
+    let low = values.bits(2, 0, 64);
+    let high = values.bits(2, 64, 36);
+    Ok((x.word, y.word, low.word, high.word))
 }
 
-// where bits of fedcba9876543210 (hexadecimal) begin, how many they are, and their number
-static BITS: [(u32, u8, u64); 8] = [
-    (0, 64, 0xfedc_ba98_7654_3210),
-    (0, 1, 0),
-    (4, 1, 1),
-    (4, 4, 1),
-    (8, 16, 0x5432),
-    (32, 32, 0xfedc_ba98),
-    (60, 4, 15),
-    (63, 1, 1),
+/// Texts for the inputs of `table`, the party whose inputs are asked for if it is one, and the first line that shows a
+/// cause with that cause, if one does.
+static TEXTS: [(&[u8], Option<Party>, Option<(u32, ValuesCause)>); 72] = [
+    (b"x = 6\ny = 7\nz = 8\n", None, None),
+    (b"z = 8\ny = 7\nx = 6", None, None),
+    (
+        b"x = 6\n\n# c\ny = 0x7 # seven\r\n\tz\t=\t0x00008",
+        None,
+        None,
+    ),
+    (
+        b"x = 18446744073709551615\ny = 15\nz = 0xfffffffffffffffffffffffff",
+        None,
+        None,
+    ),
+    (
+        b"x = 0xFFFFFFFFFFFFFFFF\ny = 0xF\nz = 0x8000000000000000000000000",
+        None,
+        None,
+    ),
+    (
+        b"x = 0x0000000000000000000000000000000001\ny = 00000000000000000000000000000000000001\nz = 0",
+        None,
+        None,
+    ),
+    (
+        b"x = 0xfedcba9876543210\ny = 0xA\nz = 18446744073709551615",
+        None,
+        None,
+    ),
+    (
+        b"x = 0xabcdefABCDEF\ny = 8\nz = 0x0123456789abcdef01234567",
+        None,
+        None,
+    ),
+    (b"", None, Some((1, ValuesCause::Missing))),
+    (b"\n", None, Some((1, ValuesCause::Missing))),
+    (b"x = 6\n", None, Some((1, ValuesCause::Missing))),
+    (
+        b"x = 6\nx = 6\ny = 7\n",
+        None,
+        Some((2, ValuesCause::Twice)),
+    ),
+    (b"x = 6\ny = 7\n", None, Some((2, ValuesCause::Missing))),
+    (b"x = 6\ny = 7\n\n\n", None, Some((4, ValuesCause::Missing))),
+    (b"# x = 6\n", None, Some((1, ValuesCause::Missing))),
+    (
+        b"x = 6\ny = 16\nz = 8",
+        None,
+        Some((2, ValuesCause::TooWide)),
+    ),
+    (
+        b"x = 18446744073709551616\ny = 7\nz = 8",
+        None,
+        Some((1, ValuesCause::TooWide)),
+    ),
+    (
+        b"x = 0x10000000000000000\ny = 7\nz = 8",
+        None,
+        Some((1, ValuesCause::TooWide)),
+    ),
+    (
+        b"x = 6\ny = 7\nz = 18446744073709551616",
+        None,
+        Some((3, ValuesCause::TooWide)),
+    ),
+    (
+        b"x = 6\ny = 7\nz = 0x10000000000000000000000000",
+        None,
+        Some((3, ValuesCause::TooWide)),
+    ),
+    (b"y = 0x10\n", None, Some((1, ValuesCause::TooWide))),
+    (b"x 6", None, Some((1, ValuesCause::Word))),
+    (b"x = 6 7", None, Some((1, ValuesCause::Word))),
+    (b"x == 6", None, Some((1, ValuesCause::Word))),
+    (b"x =6", None, Some((1, ValuesCause::Word))),
+    (b"x= 6", None, Some((1, ValuesCause::Word))),
+    (b"= 6", None, Some((1, ValuesCause::Word))),
+    (b"x =", None, Some((1, ValuesCause::Word))),
+    (b"x = 0x", None, Some((1, ValuesCause::Word))),
+    (b"x = 0X1", None, Some((1, ValuesCause::Word))),
+    (b"x = 0xg", None, Some((1, ValuesCause::Word))),
+    (b"x = 6a", None, Some((1, ValuesCause::Word))),
+    (b"x = -1", None, Some((1, ValuesCause::Word))),
+    (b"x = +1", None, Some((1, ValuesCause::Word))),
+    (b"x = 1_0", None, Some((1, ValuesCause::Word))),
+    (b"x = 0b1", None, Some((1, ValuesCause::Word))),
+    (b"x = 1 # = 2", None, Some((1, ValuesCause::Missing))),
+    (b"x # = 6", None, Some((1, ValuesCause::Word))),
+    (b"x = 6\xc3\xa9", None, Some((1, ValuesCause::Word))),
+    (b"x = 6 # \xc3\xa9", None, Some((1, ValuesCause::Word))),
+    (b"x = 6 \x7f", None, Some((1, ValuesCause::Word))),
+    (b"x = 6\x0b", None, Some((1, ValuesCause::Word))),
+    (b"q = 6", None, Some((1, ValuesCause::NameUnknown))),
+    (b"X = 6", None, Some((1, ValuesCause::NameUnknown))),
+    (b"x1 = 6", None, Some((1, ValuesCause::NameUnknown))),
+    (b"1 = 6", None, Some((1, ValuesCause::NameUnknown))),
+    (b"all = 6", None, Some((1, ValuesCause::NameUnknown))),
+    (
+        b"q = 99999999999999999999999",
+        None,
+        Some((1, ValuesCause::NameUnknown)),
+    ),
+    (b"q = 0x", None, Some((1, ValuesCause::Word))),
+    (b"x = 6\nq = 7", None, Some((2, ValuesCause::NameUnknown))),
+    (b"x = 6\nx = 0x", None, Some((2, ValuesCause::Word))),
+    (
+        b"x = 6\nx = 18446744073709551616",
+        None,
+        Some((2, ValuesCause::Twice)),
+    ),
+    (
+        b"x = 6\nq = 18446744073709551616",
+        None,
+        Some((2, ValuesCause::NameUnknown)),
+    ),
+    (b"y = 16\ny = 16", None, Some((1, ValuesCause::TooWide))),
+    (b"y = 3\ny = 16", None, Some((2, ValuesCause::Twice))),
+    (b"x = 6\n\n\nx = 6", None, Some((4, ValuesCause::Twice))),
+    (
+        b"x = 6\ny = 7\nz = 8\nq = 9",
+        None,
+        Some((4, ValuesCause::NameUnknown)),
+    ),
+    (
+        b"x = 6\ny = 7\nz = 8\nz = 8",
+        None,
+        Some((4, ValuesCause::Twice)),
+    ),
+    (b"x = 6\nz = 8\n", Some(Party(0)), None),
+    (
+        b"x = 6\ny = 7\nz = 8\n",
+        Some(Party(0)),
+        Some((2, ValuesCause::NameUnknown)),
+    ),
+    (b"z = 8", Some(Party(0)), Some((1, ValuesCause::Missing))),
+    (b"", Some(Party(0)), Some((1, ValuesCause::Missing))),
+    (
+        b"x = 6\nz = 8\nx = 6",
+        Some(Party(0)),
+        Some((3, ValuesCause::Twice)),
+    ),
+    (b"y = 7\n", Some(Party(1)), None),
+    (
+        b"x = 6\ny = 7",
+        Some(Party(1)),
+        Some((1, ValuesCause::NameUnknown)),
+    ),
+    (b"", Some(Party(1)), Some((1, ValuesCause::Missing))),
+    (
+        b"y = 7\ny = 7",
+        Some(Party(1)),
+        Some((2, ValuesCause::Twice)),
+    ),
+    (b"y = 16", Some(Party(1)), Some((1, ValuesCause::TooWide))),
+    (b"", Some(Party(2)), None),
+    (b"\n# c\n", Some(Party(2)), None),
+    (
+        b"x = 6",
+        Some(Party(2)),
+        Some((1, ValuesCause::NameUnknown)),
+    ),
+    (b"x", Some(Party(2)), Some((1, ValuesCause::Word))),
+];
+
+/// Texts for all inputs, and the words of `x` and `y`, and the low and the high word of `z`.
+static WORDS: [(&[u8], u64, u64, u64, u64); 8] = [
+    (b"x = 6\ny = 7\nz = 8\n", 0x6, 0x7, 0x8, 0x0),
+    (b"z = 8\ny = 7\nx = 6", 0x6, 0x7, 0x8, 0x0),
+    (
+        b"x = 6\n\n# c\ny = 0x7 # seven\r\n\tz\t=\t0x00008",
+        0x6,
+        0x7,
+        0x8,
+        0x0,
+    ),
+    (
+        b"x = 18446744073709551615\ny = 15\nz = 0xfffffffffffffffffffffffff",
+        0xffffffffffffffff,
+        0xf,
+        0xffffffffffffffff,
+        0xfffffffff,
+    ),
+    (
+        b"x = 0xFFFFFFFFFFFFFFFF\ny = 0xF\nz = 0x8000000000000000000000000",
+        0xffffffffffffffff,
+        0xf,
+        0x0,
+        0x800000000,
+    ),
+    (
+        b"x = 0x0000000000000000000000000000000001\ny = 00000000000000000000000000000000000001\nz = 0",
+        0x1,
+        0x1,
+        0x0,
+        0x0,
+    ),
+    (
+        b"x = 0xfedcba9876543210\ny = 0xA\nz = 18446744073709551615",
+        0xfedcba9876543210,
+        0xa,
+        0xffffffffffffffff,
+        0x0,
+    ),
+    (
+        b"x = 0xabcdefABCDEF\ny = 8\nz = 0x0123456789abcdef01234567",
+        0xabcdefabcdef,
+        0x8,
+        0x89abcdef01234567,
+        0x1234567,
+    ),
 ];
 
 #[test]
-fn bits_are_cut_from_their_place_on(rt: HostRuntime) -> Result<(), Fail> {
-    let text = b"x = 18364758544493064720".as_slice();
-    for (at, width, word) in &BITS {
-        assert!(rt; *width >= 1 && *at <= 64 && u32::from(*width) <= 64 - *at);
-        assert_eq!(rt; read_bits(rt.alloc(), text, *at, *width)?, *word, "at {at}");
+fn texts_read_or_have_these_first_faults(rt: HostRuntime) -> Result<(), Fail> {
+    for (text, owner, fault) in &TEXTS {
+        assert!(rt; text.len() <= MAX_FILE_LENGTH);
+        let seen = fault_of(rt.alloc(), text, *owner)?;
+        assert_eq!(rt; seen, *fault, "{text:?}");
     }
     Ok(())
 }
 
-static TEXTS_OF_NO_INPUT: [(&[u8], bool); 5] = [
-    (b"", true),
-    (b"\n \r\n\t", true),
-    (b"x = 6", false),
-    (b"#", false),
-    (b"\x00", false),
-];
-
 #[test]
-fn no_input_has_the_empty_text(rt: HostRuntime) -> Result<(), Fail> {
-    let inputs = InputTable::new(rt.alloc());
-    for (text, reads) in &TEXTS_OF_NO_INPUT {
-        assert!(rt; text.len() <= 67_108_864);
-        let read = read_values(rt.alloc(), text, &inputs, None);
-        assert_eq!(rt; read.is_ok(), *reads, "{text:?}");
+fn literals_give_these_bits(rt: HostRuntime) -> Result<(), Fail> {
+    for (text, x, y, low, high) in &WORDS {
+        assert!(rt; text.len() <= MAX_FILE_LENGTH);
+        assert_eq!(rt;
+            words_of(rt.alloc(), text)?,
+            (*x, *y, *low, *high),
+            "{text:?}"
+        );
     }
     Ok(())
 }

@@ -1,7 +1,7 @@
 use Rattle.std.proofs.Common.{sym, ◌∙◌, subst}
 use Rattle.std.proofs.lemmas.Bool.{false≢true}
-use Rattle.mixed_circuit.specs.Circuit.{IsCircuit}
-use Rattle.mixed_circuit.proofs.CircuitLemmas.{place_of-none}
+use Rattle.mixed_circuit.specs.Said.{IsCircuit}
+use Rattle.mixed_circuit.proofs.NameLemmas.{place_of-none}
 use Rattle.mixed_circuit.proofs.builder.Builder.place.Goals as goal
 
 pub returns-in_err-name : goal.returns-in_err-name

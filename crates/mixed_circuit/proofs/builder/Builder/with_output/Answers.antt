@@ -1,10 +1,10 @@
-use Rattle.std.proofs.Common.{sym, ◌∙◌, ap, refl}
+use Rattle.std.proofs.Common.{sym, ◌∙◌, ap}
 use Rattle.mixed_circuit.specs.Circuit.{Circuit, place_of}
-use Rattle.mixed_circuit.proofs.CircuitLemmas.{place_of-output}
+use Rattle.mixed_circuit.proofs.PlaceLemmas.{place_of-output}
 use Rattle.mixed_circuit.proofs.builder.Builder.with_output.Goals as goal
 
 pub invariant_of-result : goal.invariant_of-result
 invariant_of-result c = (
   c.in_ok-push.ensures.circuit,
-  λ name. c.self.invariant.1 name ∙ sym (ap (λ (x : Circuit). place_of x.statements name) c.in_ok-push.ensures.ok ∙ place_of-output c.self.inside.circuit.statements _ name refl),
+  λ name. c.self.invariant.1 name ∙ sym (ap (λ (x : Circuit). place_of x.statements name) c.in_ok-push.ensures.ok ∙ place_of-output c.self.inside.circuit.statements _ name c.requires.no_value),
 )

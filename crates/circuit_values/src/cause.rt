@@ -1,0 +1,97 @@
+use std::alloc::{AllocError, AllocFailed};
+use thiserror::Error;
+
+/// What is wrong with a line of a values text. Within one line the causes are looked for in this order: `Word`,
+/// `NameUnknown`, `Twice`, `TooWide`; and `Missing` behind all lines.
+#[derive(Clone, Copy, Debug, PartialEq, Eq, Error)]
+pub enum ValuesCause {
+    /// No input that is asked for has this name.
+    #[error("no input that is asked for has this name")]
+    NameUnknown = 1,
+    /// An input that is asked for has no line. It stands at the last line.
+    #[error("an input that is asked for has no value")]
+    Missing = 2,
+    /// An earlier line gave this input its value.
+    #[error("an earlier line gave this input its value")]
+    Twice = 3,
+    /// A decimal literal from 2^64 on, or a one bit at or above the input's width.
+    #[error("the value is wider than the input")]
+    TooWide = 4,
+    /// Not a name, `=` and a literal, or a byte that is not allowed.
+    #[error("the line is not a name, `=` and a literal")]
+    Word = 5,
+}
+
+/// Why a text was not read as values.
+#[derive(Clone, Copy, Debug, PartialEq, Eq, Error)]
+pub enum ValuesError {
+    /// The first line that shows a cause, and the first cause of that line.
+    #[error("line {line} of the values: {cause}")]
+    At { line: u32, cause: ValuesCause },
+    /// Memory ran out.
+    #[error("there is not enough memory to read the values")]
+    NoMemory,
+}
+
+impl<T: Drop> From<AllocFailed<T>> for ValuesError {
+    ghost use Rattle.std.specs.Prelude.{◌≡◌};
+    ghost use Rattle.circuit_values.specs.declared.cause.ValuesError.TheVariants.{NoMemory};
+
+    ghost from_gives = { λ _ e. e ≡ NoMemory };
+
+    fn from(_error: AllocFailed<T>) -> ValuesError {
+        ValuesError::NoMemory
+    }
+}
+
+impl From<AllocError> for ValuesError {
+    ghost use Rattle.std.specs.Prelude.{◌≡◌};
+    ghost use Rattle.circuit_values.specs.declared.cause.ValuesError.TheVariants.{NoMemory};
+
+    ghost from_gives = { λ _ e. e ≡ NoMemory };
+
+    fn from(_error: AllocError) -> ValuesError {
+        ValuesError::NoMemory
+    }
+}
+
+/// Why a line was not read.
+#[derive(Clone, Copy)]
+pub enum LineError {
+    /// The first cause that the line shows.
+    Shows(ValuesCause),
+    NoMemory,
+}
+
+impl From<ValuesCause> for LineError {
+    ghost use Rattle.std.specs.Prelude.{◌≡◌};
+    ghost use Rattle.circuit_values.specs.declared.cause.LineError.TheVariants.{Shows};
+
+    ghost from_gives = { λ cause e. e ≡ Shows cause };
+
+    fn from(cause: ValuesCause) -> LineError {
+        LineError::Shows(cause)
+    }
+}
+
+impl From<AllocError> for LineError {
+    ghost use Rattle.std.specs.Prelude.{◌≡◌};
+    ghost use Rattle.circuit_values.specs.declared.cause.LineError.TheVariants.{NoMemory};
+
+    ghost from_gives = { λ _ e. e ≡ NoMemory };
+
+    fn from(_error: AllocError) -> LineError {
+        LineError::NoMemory
+    }
+}
+
+impl<T: Drop> From<AllocFailed<T>> for LineError {
+    ghost use Rattle.std.specs.Prelude.{◌≡◌};
+    ghost use Rattle.circuit_values.specs.declared.cause.LineError.TheVariants.{NoMemory};
+
+    ghost from_gives = { λ _ e. e ≡ NoMemory };
+
+    fn from(_error: AllocFailed<T>) -> LineError {
+        LineError::NoMemory
+    }
+}

@@ -1,0 +1,68 @@
+ghost use Rattle.std.specs.Prelude.{◌≡◌, map};
+ghost use Rattle.mixed_circuit.specs.Line.{is_party, resolved, said};
+ghost use Rattle.mixed_circuit.specs.Grammar.{adds};
+ghost use Rattle.mixed_circuit.specs.Gives.{Gives};
+ghost use Rattle.mixed_circuit.specs.Stated.{stated, AreWhole};
+
+use crate::builder::Builder;
+use crate::cause::{CircuitCause, LineError};
+use crate::circuit::Statement;
+use crate::operand::{sharing_of_all, width_of_all};
+use crate::raw::{Raw, check, raw_of};
+use crate::statement::statement_said;
+use std::alloc::Global;
+
+/// The circuit with the statement that the words of a line say.
+#[tactic(auto, unfolding(crate::specs::Grammar::adds))]
+pub fn with_line(alloc: Global, builder: Builder, words: &[&[u8]]) -> Result<Builder, LineError>
+    ensures { Gives (λ b. b) result (adds builder (map (λ word. word.now) words.now)) }
+{
+    let statement = statement_of_words(alloc, &builder, words)?;
+    let next = builder.with_statement(statement)?;
+    Ok(next)
+}
+
+/// The statement that the words of a line say behind those of a circuit.
+#[tactic(auto, unfolding(crate::specs::Line::said))]
+fn statement_of_words(
+    alloc: Global,
+    builder: &Builder,
+    words: &[&[u8]],
+) -> Result<Statement, LineError>
+    ensures { Gives (λ s. s) result (said builder.now (map (λ word. word.now) words.now)) }
+{
+    let raw = raw_of(alloc, words)?;
+    let statement = statement_of_raw(alloc, builder, &raw)?;
+    check(builder.has_room(), CircuitCause::TooMany)?;
+    Ok(statement)
+}
+
+/// The statement that what a line states means behind those of a circuit.
+#[tactic(auto, unfolding(crate::specs::Line::resolved))]
+fn statement_of_raw(alloc: Global, builder: &Builder, raw: &Raw) -> Result<Statement, LineError>
+    requires { AreWhole (stated raw.now) }
+    ensures { Gives (λ s. s) result (resolved builder.now (stated raw.now)) }
+{
+    check(
+        is_party_of(builder.parties(), raw.party),
+        CircuitCause::BadParty,
+    )?;
+    check(builder.is_new(raw.name), CircuitCause::NameTwice)?;
+    let operands = builder.operands(alloc, &raw.operands)?;
+    let sharing = sharing_of_all(raw, &operands).ok_or(CircuitCause::WrongSharing)?;
+    let width = width_of_all(raw.operation.widths(), raw, &operands).ok_or(
+        CircuitCause::WrongWidth,
+    )?;
+    let statement = statement_said(alloc, raw, &operands, sharing, width)?;
+    Ok(statement)
+}
+
+/// Whether a party, if one is stated, is one of so many.
+fn is_party_of(parties: u8, party: Option<u64>) -> bool
+    ensures { result ≡ is_party parties party }
+{
+    match party {
+        Some(party) => party < u64::from(parties),
+        None => true,
+    }
+}

@@ -1,0 +1,288 @@
+-- What the words and the files of a call settle.
+use Rattle.std.proofs.Common.{ℕ, ◌≡◌, ◌≢◌, inl, inr, Bool, List, [], ◌∷◌, Option, Some, None, refl, sym, ap, subst, ◌∙◌, arith}
+use Rattle.std.specs.Prelude.{codes, IsSomeAnd, map, false}
+use Rattle.hex.specs.Hex.{decode_of}
+use Rattle.mot_base.specs.Files.{Holding, IsTooLong}
+use Rattle.share_types.specs.Bits.{number}
+use Rattle.text_lines.specs.Text.{Text}
+use Rattle.text_lines.specs.LineReader.{LineReader, FirstFaultOf}
+use Rattle.text_lines.specs.LineReader as lines
+use Rattle.text_lines.proofs.ReaderLemmas.{reads_or_faults}
+use Rattle.circuit_values.specs.declared.cause.ValuesCause.{ValuesCause}
+use Rattle.circuit_values.specs.Table.{Told}
+use Rattle.circuit_values.specs.Values as values
+use Rattle.mixed_circuit.specs.declared.cause.CircuitCause.{CircuitCause}
+use Rattle.mixed_circuit.specs.declared.read.Stage.{Stage}
+use Rattle.mixed_circuit.specs.Circuit.{Circuit}
+use Rattle.mixed_circuit.specs.Grammar as circuit
+use Rattle.mixed_circuit.specs.Grammar.{circuits}
+use Rattle.mixed_circuit.specs.Table.{inputs_of}
+use Rattle.mixed_circuit.specs.Eval.{told_of}
+use Rattle.mixed_circuit.proofs.EvalLemmas.{evaluates_once}
+use Rattle.motion_cli.specs.declared.status.Status.TheVariants.{Done, Usage, File}
+use Rattle.motion_cli.specs.declared.status.Status.TheVariants as status
+use Rattle.motion_cli.specs.declared.report.Notation.TheVariants.{Decimal}
+use Rattle.motion_cli.specs.Commands.{ReadsCircuit, ReadsInputs, Reports, LoadsBoth, PlainReads, PlainEnds, LocalReads, LocalEnds, RequestEnds}
+use Rattle.motion_cli.specs.Outcome.{Outcome, file_refused, circuit_refused, values_refused, reported, at_line, line}
+use Rattle.motion_cli.specs.Outcome.Kind.{report}
+use Rattle.motion_cli.specs.Refusal.{circuit_cause, values_cause}
+use Rattle.motion_cli.specs.Report.{output_lines, parties_report}
+use Rattle.motion_cli.specs.Run.{is_built}
+use Rattle.motion_cli.specs.Words.{Request, PlainRequest, LocalRequest, IsPlain, IsLocal, AsksFor}
+use Rattle.motion_cli.specs.Words.Request.{plain, local}
+use Rattle.motion_cli.proofs.ProgramLemmas.{other_name, same_rest}
+use Rattle.motion_cli.specs.Steps.{Fault, IsContent, IsUnloaded, Loads, ReadsAs, Unless}
+
+-- Two ways to an outcome lead to the same one.
+
+abbrev pub Agree : (Outcome → Type 0) → (Outcome → Type 0) → Type 0
+Agree P Q = (x y : Outcome) → P x → Q y → x ≡ y
+
+content_once : (held : Holding) (name c d : Text) → IsContent (Some held) name c → IsContent (Some held) name d → c ≡ d
+content_once held name c d first second = (let same : Some c ≡ Some d = sym first.1 ∙ second.1 in cc)
+
+not_both : (o : Option Text) → o ≡ None → IsSomeAnd o IsTooLong → ⊥
+not_both None e long = long
+not_both (Some x) e long = (let no : Some x ≡ None = e in cc)
+
+too_long : (o : Option Text) (c : Text) → o ≡ Some c → IsSomeAnd o IsTooLong → IsTooLong c
+too_long o c e long = subst (λ o. IsSomeAnd o IsTooLong) e long
+
+unloaded_once : (held : Holding) (rose other : Type 0) (name : Text) → ¬ rose → ¬ other →
+    Agree (IsUnloaded (Some held) rose name) (IsUnloaded (Some held) other name)
+unloaded_once held rose other name quiet still x y (inl m) (inl n) = m.1 ∙ sym n.1
+unloaded_once held rose other name quiet still x y (inl m) (inr (inl n)) = absurd (not_both (held name) m.0 n.0)
+unloaded_once held rose other name quiet still x y (inl m) (inr (inr n)) = absurd (still n.0)
+unloaded_once held rose other name quiet still x y (inr (inl m)) (inl n) = absurd (not_both (held name) n.0 m.0)
+unloaded_once held rose other name quiet still x y (inr (inl m)) (inr (inl n)) = m.1 ∙ sym n.1
+unloaded_once held rose other name quiet still x y (inr (inl m)) (inr (inr n)) = absurd (still n.0)
+unloaded_once held rose other name quiet still x y (inr (inr m)) second = absurd (quiet m.0)
+
+not_loaded : (held : Holding) (rose : Type 0) (name c : Text) (x : Outcome) → ¬ rose → IsUnloaded (Some held) rose name x →
+    IsContent (Some held) name c → ⊥
+not_loaded held rose name c x quiet (inl m) content = (let is : Some c ≡ None = sym content.1 ∙ m.0 in cc)
+not_loaded held rose name c x quiet (inr (inl m)) content =
+    (let long = too_long (held name) c content.1 m.0 in let fits = content.0 in omega (arith, long, fits))
+not_loaded held rose name c x quiet (inr (inr m)) content = quiet m.0
+
+loads_agree : (held : Holding) (rose other : Type 0) (name : Text) (P Q : Text → Outcome → Type 0) → ¬ rose → ¬ other →
+    ((c : Text) → Agree (P c) (Q c)) → Agree (Loads (Some held) rose name P) (Loads (Some held) other name Q)
+loads_agree held rose other name P Q quiet still next x y (inl m) (inl n) = unloaded_once held rose other name quiet still x y m n
+loads_agree held rose other name P Q quiet still next x y (inl m) (inr n) = absurd (not_loaded held rose name n.0 x quiet m n.1)
+loads_agree held rose other name P Q quiet still next x y (inr m) (inl n) = absurd (not_loaded held other name m.0 y still n m.1)
+loads_agree held rose other name P Q quiet still next x y (inr m) (inr n) =
+    let same = content_once held name m.0 n.0 m.1 n.1 in
+    next n.0 x y (subst (λ c. P c x) same m.2) n.2
+
+one_fault : {C : Type 0} (f g : Fault C) → f.line ≡ g.line → f.cause ≡ g.cause → f ≡ g
+one_fault {C} f g line cause =
+    ap (λ (l : ℕ). record { line = l; cause = f.cause }) line ∙ ap (λ (k : C). record { line = g.line; cause = k }) cause
+
+reads_agree : (S X C : Type 0) (r : LineReader S X C) (text : Text) (refusal_of : Fault C → Outcome) (P Q : X → Outcome → Type 0) →
+    ((x : X) → Agree (P x) (Q x)) →
+    Agree (ReadsAs {F = Fault C} {C = X} (λ f. FirstFaultOf r text f.line f.cause) refusal_of (lines.ReadsAs S X C r text) P)
+    (ReadsAs {F = Fault C} {C = X} (λ f. FirstFaultOf r text f.line f.cause) refusal_of (lines.ReadsAs S X C r text) Q)
+reads_agree S X C r text refusal_of P Q next x y (inl m) (inl n) =
+    let both = (reads_or_faults S X C r text).one_fault m.0.line n.0.line m.0.cause n.0.cause m.1 n.1 in
+    m.2 ∙ (ap refusal_of (one_fault m.0 n.0 both.0 both.1) ∙ sym n.2)
+reads_agree S X C r text refusal_of P Q next x y (inl m) (inr n) =
+    absurd ((reads_or_faults S X C r text).not_both n.0 m.0.line m.0.cause n.1 m.1)
+reads_agree S X C r text refusal_of P Q next x y (inr m) (inl n) =
+    absurd ((reads_or_faults S X C r text).not_both m.0 n.0.line n.0.cause m.1 n.1)
+reads_agree S X C r text refusal_of P Q next x y (inr m) (inr n) =
+    let same = (reads_or_faults S X C r text).one_value m.0 n.0 m.1 n.1 in
+    next n.0 x y (subst (λ c. P c x) same m.2) n.2
+
+unless_agree : (cause : Type 0) (answer : Outcome) (P Q : Outcome → Type 0) → Agree P Q → Agree (Unless cause answer P) (Unless cause answer Q)
+unless_agree cause answer P Q next x y (inl m) (inl n) = m.1 ∙ sym n.1
+unless_agree cause answer P Q next x y (inl m) (inr n) = absurd (n.0 m.0)
+unless_agree cause answer P Q next x y (inr m) (inl n) = absurd (m.0 n.0)
+unless_agree cause answer P Q next x y (inr m) (inr n) = next x y m.1 n.1
+
+-- An outcome never has the status of the usage; and where its status is 0, it is a report, and hangs on no fault.
+
+abbrev pub Fair : (Outcome → Type 0) → (Outcome → Type 0) → Type 0
+Fair P Q = (x : Outcome) → P x → (x.status ≢ Usage) × (x.status ≡ Done → (x.kind ≡ report) × Q x)
+
+abbrev pub Refusing : Outcome → Type 0
+Refusing x = (x.status ≢ Usage) × (x.status ≢ Done)
+
+refused_fair : (Q : Outcome → Type 0) (x y : Outcome) → x ≡ y → Refusing y →
+    (x.status ≢ Usage) × (x.status ≡ Done → (x.kind ≡ report) × Q x)
+refused_fair Q x y e refusing =
+    let here : Refusing x = subst (λ o. Refusing o) (sym e) refusing in
+    (here.0, λ done. absurd (here.1 done))
+
+file_refusing : (name text : Text) → Refusing (file_refused name text)
+file_refusing name text = ((λ e. let is : File ≡ Usage = e in cc), (λ e. let is : File ≡ Done = e in cc))
+
+loads_fair : (told : Option Holding) (rose : Type 0) (name : Text) (P Q : Text → Outcome → Type 0) →
+    ((c : Text) → Fair (P c) (Q c)) → Fair (Loads told rose name P) (Loads told ⊥ name Q)
+loads_fair told rose name P Q next x (inl (inl m)) =
+    refused_fair (Loads told ⊥ name Q) x (file_refused name (codes "missing")) m.1 (file_refusing name (codes "missing"))
+loads_fair told rose name P Q next x (inl (inr (inl m))) =
+    refused_fair (Loads told ⊥ name Q) x (file_refused name (codes "too long")) m.1 (file_refusing name (codes "too long"))
+loads_fair told rose name P Q next x (inl (inr (inr m))) =
+    refused_fair (Loads told ⊥ name Q) x (file_refused name (codes "fault")) m.1 (file_refusing name (codes "fault"))
+loads_fair told rose name P Q next x (inr m) =
+    let fair = next m.0 x m.2 in
+    (fair.0, λ done. ((fair.1 done).0, inr (m.0, m.1, (fair.1 done).1)))
+
+reads_fair : {F C : Type 0} (faulty : F → Type 0) (refusal_of : F → Outcome) (reads : C → Type 0) (P Q : C → Outcome → Type 0) →
+    ((f : F) → Refusing (refusal_of f)) → ((c : C) → Fair (P c) (Q c)) →
+    Fair (ReadsAs faulty refusal_of reads P) (ReadsAs faulty refusal_of reads Q)
+reads_fair faulty refusal_of reads P Q refusing next x (inl m) =
+    refused_fair (ReadsAs faulty refusal_of reads Q) x (refusal_of m.0) m.2 (refusing m.0)
+reads_fair faulty refusal_of reads P Q refusing next x (inr m) =
+    let fair = next m.0 x m.2 in
+    (fair.0, λ done. ((fair.1 done).0, inr (m.0, m.1, (fair.1 done).1)))
+
+unless_fair : (cause : Type 0) (answer : Outcome) (P Q : Outcome → Type 0) → Refusing answer → Fair P Q →
+    Fair (Unless cause answer P) (Unless cause answer Q)
+unless_fair cause answer P Q refusing next x (inl m) = refused_fair (Unless cause answer Q) x answer m.1 refusing
+unless_fair cause answer P Q refusing next x (inr m) =
+    let fair = next x m.1 in
+    (fair.0, λ done. ((fair.1 done).0, inr (m.0, (fair.1 done).1)))
+
+-- The commands.
+
+reports_agree : (c : Circuit) (v : List (List Bool)) (text : List Told → Text) → Agree (Reports c v text) (Reports c v text)
+reports_agree c v text x y m n =
+    let same = evaluates_once c.statements (map number v) m.1.values n.1.values m.1.evaluated n.1.evaluated in
+    let outputs = m.1.told ∙ (ap (told_of c) same ∙ sym n.1.told) in
+    m.2 ∙ (ap (λ o. reported (text o)) outputs ∙ sym n.2)
+
+reports_fair : (c : Circuit) (v : List (List Bool)) (text : List Told → Text) → Fair (Reports c v text) (Reports c v text)
+reports_fair c v text x m = (
+  (λ e. let is : Done ≡ Usage = sym (ap (λ (o : Outcome). o.status) m.2) ∙ e in cc),
+  (λ done. (ap (λ (o : Outcome). o.kind) m.2, m)),
+)
+
+circuit_refusing : (name rest : Text) → Refusing (circuit_refused name rest)
+circuit_refusing name rest = ((λ e. let is : status.Circuit ≡ Usage = e in cc), (λ e. let is : status.Circuit ≡ Done = e in cc))
+
+values_refusing : (name rest : Text) → Refusing (values_refused name rest)
+values_refusing name rest = ((λ e. let is : status.Values ≡ Usage = e in cc), (λ e. let is : status.Values ≡ Done = e in cc))
+
+abbrev circuit_fault : Text → Fault CircuitCause → Outcome
+circuit_fault name f = circuit_refused name (at_line f.line (circuit_cause f.cause))
+
+abbrev values_fault : Text → Fault ValuesCause → Outcome
+values_fault name f = values_refused name (at_line f.line (values_cause f.cause))
+
+circuit_agree : (name text : Text) (P Q : Circuit → Outcome → Type 0) → ((c : Circuit) → Agree (P c) (Q c)) →
+    Agree (ReadsCircuit name text P) (ReadsCircuit name text Q)
+circuit_agree name text P Q next = reads_agree Stage Circuit CircuitCause circuits text (circuit_fault name) P Q next
+
+circuit_fair : (name text : Text) (P Q : Circuit → Outcome → Type 0) → ((c : Circuit) → Fair (P c) (Q c)) →
+    Fair (ReadsCircuit name text P) (ReadsCircuit name text Q)
+circuit_fair name text P Q next =
+    reads_fair (λ (f : Fault CircuitCause). circuit.FirstFault text f.line f.cause) (circuit_fault name) (circuit.Reads text) P Q
+    (λ f. circuit_refusing name (at_line f.line (circuit_cause f.cause))) next
+
+inputs_agree : (name : Text) (c : Circuit) (text : Text) (P Q : List (List Bool) → Outcome → Type 0) →
+    ((v : List (List Bool)) → Agree (P v) (Q v)) → Agree (ReadsInputs name c text P) (ReadsInputs name c text Q)
+inputs_agree name c text P Q next =
+    reads_agree (List (Option (List Bool))) (List (List Bool)) ValuesCause (values.values (inputs_of c.statements) None) text
+    (values_fault name) P Q next
+
+inputs_fair : (name : Text) (c : Circuit) (text : Text) (P Q : List (List Bool) → Outcome → Type 0) →
+    ((v : List (List Bool)) → Fair (P v) (Q v)) → Fair (ReadsInputs name c text P) (ReadsInputs name c text Q)
+inputs_fair name c text P Q next =
+    reads_fair (λ (f : Fault ValuesCause). values.FirstFault (inputs_of c.statements) None text f.line f.cause) (values_fault name)
+    (values.ReadsValues (inputs_of c.statements) None text) P Q
+    (λ f. values_refusing name (at_line f.line (values_cause f.cause))) next
+
+both_agree : (held : Holding) (rose : Type 0) (first second : Text) (P Q : Text → Text → Outcome → Type 0) → ¬ rose →
+    ((c v : Text) → Agree (P c v) (Q c v)) →
+    Agree (LoadsBoth (Some held) rose first second P) (LoadsBoth (Some held) ⊥ first second Q)
+both_agree held rose first second P Q quiet next =
+    loads_agree held rose ⊥ first (λ c. Loads (Some held) rose second (λ v. P c v)) (λ c. Loads (Some held) ⊥ second (λ v. Q c v))
+    quiet (λ x. x)
+    (λ c. loads_agree held rose ⊥ second (P c) (Q c) quiet (λ x. x) (next c))
+
+both_fair : (told : Option Holding) (rose : Type 0) (first second : Text) (P Q : Text → Text → Outcome → Type 0) →
+    ((c v : Text) → Fair (P c v) (Q c v)) → Fair (LoadsBoth told rose first second P) (LoadsBoth told ⊥ first second Q)
+both_fair told rose first second P Q next =
+    loads_fair told rose first (λ c. Loads told rose second (λ v. P c v)) (λ c. Loads told ⊥ second (λ v. Q c v))
+    (λ c. loads_fair told rose second (P c) (Q c) (next c))
+
+plain_agree : (request : PlainRequest) (circuit values : Text) → Agree (PlainReads request circuit values) (PlainReads request circuit values)
+plain_agree request circuit values = circuit_agree request.circuit circuit _ _
+    (λ c. inputs_agree request.values c values _ _ (λ v. reports_agree c v (output_lines Decimal)))
+
+plain_fair : (request : PlainRequest) (circuit values : Text) → Fair (PlainReads request circuit values) (PlainReads request circuit values)
+plain_fair request circuit values = circuit_fair request.circuit circuit _ _
+    (λ c. inputs_fair request.values c values _ _ (λ v. reports_fair c v (output_lines Decimal)))
+
+local_agree : (request : LocalRequest) (circuit values : Text) → Agree (LocalReads request circuit values) (LocalReads request circuit values)
+local_agree request circuit values = circuit_agree request.circuit circuit _ _
+    (λ c. unless_agree (is_built c ≡ false) (circuit_refused request.circuit (line (codes "not built"))) _ _
+    (inputs_agree request.values c values _ _ (λ v. reports_agree c v (λ outputs. parties_report Decimal outputs c.parties))))
+
+local_fair : (request : LocalRequest) (circuit values : Text) → Fair (LocalReads request circuit values) (LocalReads request circuit values)
+local_fair request circuit values = circuit_fair request.circuit circuit _ _
+    (λ c. unless_fair (is_built c ≡ false) (circuit_refused request.circuit (line (codes "not built"))) _ _
+    (circuit_refusing request.circuit (line (codes "not built")))
+    (inputs_fair request.values c values _ _ (λ v. reports_fair c v (λ outputs. parties_report Decimal outputs c.parties))))
+
+-- What a command has to show: words ask for one request at most, and outcomes agree and are fair.
+pub record IsSettled {R : Type 0} (asks : R → Type 0) (ends : Option Holding → Type 0 → R → Outcome → Type 0) : Type 1 where
+  pub one : (r s : R) → asks r → asks s → r ≡ s
+  pub agree : (held : Holding) (rose : Type 0) (r : R) → ¬ rose → Agree (ends (Some held) rose r) (ends (Some held) ⊥ r)
+  pub fair : (told : Option Holding) (rose : Type 0) (r : R) → Fair (ends told rose r) (ends told ⊥ r)
+
+plain_once : (words : List (List ℕ)) (r s : PlainRequest) → IsPlain words r → IsPlain words s → r ≡ s
+plain_once words r s a b =
+    let both : r.circuit ∷ r.values ∷ [] ≡ s.circuit ∷ s.values ∷ [] = sym a.exactly ∙ b.exactly in
+    let circuit : r.circuit ≡ s.circuit = cc in
+    let values : r.values ≡ s.values = cc in
+    ap (λ (c : List ℕ). record { circuit = c; values = r.values }) circuit
+    ∙ ap (λ (v : List ℕ). record { circuit = s.circuit; values = v }) values
+
+local_once : (words : List (List ℕ)) (r s : LocalRequest) → IsLocal words r → IsLocal words s → r ≡ s
+local_once words r s a b =
+    let both : r.circuit ∷ r.values ∷ a.digits ∷ [] ≡ s.circuit ∷ s.values ∷ b.digits ∷ [] = sym a.exactly ∙ b.exactly in
+    let circuit : r.circuit ≡ s.circuit = cc in
+    let values : r.values ≡ s.values = cc in
+    let digits : a.digits ≡ b.digits = cc in
+    let seeds = sym a.seed.1 ∙ (ap decode_of digits ∙ b.seed.1) in
+    let seed : r.seed ≡ s.seed = cc in
+    ap (λ (c : List ℕ). record { circuit = c; values = r.values; seed = r.seed }) circuit
+    ∙ (ap (λ (v : List ℕ). record { circuit = s.circuit; values = v; seed = r.seed }) values
+    ∙ ap (λ (d : List ℕ). record { circuit = s.circuit; values = s.values; seed = d }) seed)
+
+asked_once : (words : List (List ℕ)) (r s : Request) → AsksFor words r → AsksFor words s → r ≡ s
+asked_once words (plain r) (plain s) a b =
+    let rest = same_rest words a.0 b.0 (codes "plain") (codes "plain") a.1 b.1 in
+    ap plain (plain_once a.0 r s a.2 (subst (λ ws. IsPlain ws s) rest b.2))
+asked_once words (local r) (local s) a b =
+    let rest = same_rest words a.0 b.0 (codes "local") (codes "local") a.1 b.1 in
+    ap local (local_once a.0 r s a.2 (subst (λ ws. IsLocal ws s) rest b.2))
+asked_once words (plain r) (local s) a b = absurd (other_name words b.0 a.0 (codes "local") b.1 refl a.1)
+asked_once words (local r) (plain s) a b = absurd (other_name words a.0 b.0 (codes "local") a.1 refl b.1)
+
+pub plain_settled : (words : List (List ℕ)) → IsSettled (IsPlain words) PlainEnds
+plain_settled words = record {
+  one = plain_once words;
+  agree = λ held rose r quiet. both_agree held rose r.circuit r.values (PlainReads r) (PlainReads r) quiet (plain_agree r);
+  fair = λ told rose r. both_fair told rose r.circuit r.values (PlainReads r) (PlainReads r) (plain_fair r);
+}
+
+pub local_settled : (words : List (List ℕ)) → IsSettled (IsLocal words) LocalEnds
+local_settled words = record {
+  one = local_once words;
+  agree = λ held rose r quiet. both_agree held rose r.circuit r.values (LocalReads r) (LocalReads r) quiet (local_agree r);
+  fair = λ told rose r. both_fair told rose r.circuit r.values (LocalReads r) (LocalReads r) (local_fair r);
+}
+
+request_agree : (held : Holding) (rose : Type 0) (r : Request) → ¬ rose → Agree (RequestEnds (Some held) rose r) (RequestEnds (Some held) ⊥ r)
+request_agree held rose (plain r) quiet = (plain_settled []).agree held rose r quiet
+request_agree held rose (local r) quiet = (local_settled []).agree held rose r quiet
+
+request_fair : (told : Option Holding) (rose : Type 0) (r : Request) → Fair (RequestEnds told rose r) (RequestEnds told ⊥ r)
+request_fair told rose (plain r) = (plain_settled []).fair told rose r
+request_fair told rose (local r) = (local_settled []).fair told rose r
+
+pub request_settled : (words : List (List ℕ)) → IsSettled (AsksFor words) RequestEnds
+request_settled words = record { one = asked_once words; agree = request_agree; fair = request_fair }

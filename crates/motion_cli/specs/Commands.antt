@@ -1,0 +1,73 @@
+-- What each command comes to: one composition of steps for each.
+use Rattle.std.specs.Prelude.{◌≡◌, Bool, false, List, codes, Option, None}
+use Rattle.mot_base.specs.Files.{Holding}
+use Rattle.circuit_values.specs.declared.cause.ValuesCause.{ValuesCause}
+use Rattle.circuit_values.specs.Table.{Told}
+use Rattle.circuit_values.specs.Values as values
+use Rattle.mixed_circuit.specs.declared.cause.CircuitCause.{CircuitCause}
+use Rattle.mixed_circuit.specs.Circuit.{Circuit}
+use Rattle.mixed_circuit.specs.Grammar as circuits
+use Rattle.mixed_circuit.specs.Table.{inputs_of}
+use Rattle.mixed_circuit.specs.Eval.{IsPlain}
+use Rattle.text_lines.specs.Text.{Text}
+use Rattle.motion_cli.specs.declared.report.Notation.TheVariants.{Decimal}
+use Rattle.motion_cli.specs.Outcome.{Outcome, reported, line, at_line, circuit_refused, values_refused}
+use Rattle.motion_cli.specs.Refusal.{circuit_cause, values_cause}
+use Rattle.motion_cli.specs.Report.{output_lines, parties_report}
+use Rattle.motion_cli.specs.Run.{is_built}
+use Rattle.motion_cli.specs.Steps.{Fault, Loads, ReadsAs, Unless}
+use Rattle.motion_cli.specs.Words.{Request, PlainRequest, LocalRequest}
+use Rattle.motion_cli.specs.Words.Request.{plain, local}
+
+-- the text of a file is read as a circuit
+abbrev pub ReadsCircuit : Text → Text → (Circuit → Outcome → Type 0) → Outcome → Type 0
+ReadsCircuit name text = ReadsAs {F = Fault CircuitCause} {C = Circuit}
+    (λ f. circuits.FirstFault text f.line f.cause)
+    (λ f. circuit_refused name (at_line f.line (circuit_cause f.cause)))
+    (circuits.Reads text)
+
+-- the text of a file is read as the values of all inputs of a circuit
+abbrev pub ReadsInputs : Text → Circuit → Text → (List (List Bool) → Outcome → Type 0) → Outcome →
+    Type 0
+ReadsInputs name c text = ReadsAs {F = Fault ValuesCause} {C = List (List Bool)}
+    (λ f. values.FirstFault (inputs_of c.statements) None text f.line f.cause)
+    (λ f. values_refused name (at_line f.line (values_cause f.cause)))
+    (values.ReadsValues (inputs_of c.statements) None text)
+
+-- the outputs of the plain evaluation of a circuit on values are reported so
+abbrev pub Reports : Circuit → List (List Bool) → (List Told → Text) → Outcome → Type 0
+Reports c v text end = (outputs : List Told) × IsPlain c v outputs × (end ≡ reported (text outputs))
+
+-- both files of a command are loaded, the circuit first
+abbrev pub LoadsBoth : Option Holding → Type 0 → Text → Text → (Text → Text → Outcome → Type 0) → Outcome →
+    Type 0
+LoadsBoth told rose circuit values next =
+    Loads told rose circuit (λ c. Loads told rose values (λ v. next c v))
+
+-- `plain`, once both files are loaded
+abbrev pub PlainReads : PlainRequest → Text → Text → Outcome → Type 0
+PlainReads request circuit values =
+    ReadsCircuit request.circuit circuit (λ c.
+    ReadsInputs request.values c values (λ v.
+    Reports c v (output_lines Decimal)))
+
+-- `plain`: each output of the plain evaluation
+abbrev pub PlainEnds : Option Holding → Type 0 → PlainRequest → Outcome → Type 0
+PlainEnds told rose request = LoadsBoth told rose request.circuit request.values (PlainReads request)
+
+-- `local`, once both files are loaded: a circuit that is not built is told before the values
+abbrev pub LocalReads : LocalRequest → Text → Text → Outcome → Type 0
+LocalReads request circuit values =
+    ReadsCircuit request.circuit circuit (λ c.
+    Unless (is_built c ≡ false) (circuit_refused request.circuit (line (codes "not built"))) (
+    ReadsInputs request.values c values (λ v.
+    Reports c v (λ outputs. parties_report Decimal outputs c.parties))))
+
+-- `local`: for each party, the outputs that it is told
+abbrev pub LocalEnds : Option Holding → Type 0 → LocalRequest → Outcome → Type 0
+LocalEnds told rose request = LoadsBoth told rose request.circuit request.values (LocalReads request)
+
+-- what a request comes to
+abbrev pub RequestEnds : Option Holding → Type 0 → Request → Outcome → Type 0
+RequestEnds told rose (plain request) = PlainEnds told rose request
+RequestEnds told rose (local request) = LocalEnds told rose request

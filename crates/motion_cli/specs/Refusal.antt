@@ -1,0 +1,67 @@
+-- The status and the line of each refusal.
+use Rattle.std.specs.Prelude.{codes, Result, Ok, Err, String, string_bytes}
+use Rattle.std.specs.declared.alloc.Global.{Global}
+use Rattle.text_lines.specs.Text.{Text}
+use Rattle.circuit_values.specs.declared.cause.ValuesCause.{ValuesCause}
+use Rattle.circuit_values.specs.declared.cause.ValuesCause.TheVariants as values
+use Rattle.mixed_circuit.specs.declared.cause.CircuitCause.{CircuitCause}
+use Rattle.mixed_circuit.specs.declared.cause.CircuitCause.TheVariants as circuit
+use Rattle.motion_cli.specs.declared.status.Status.{Status}
+use Rattle.motion_cli.specs.declared.status.Status.TheVariants as status
+use Rattle.motion_cli.specs.declared.refusal.FileCause.{FileCause}
+use Rattle.motion_cli.specs.declared.refusal.FileCause.TheVariants.{Missing, TooLong, Fault}
+use Rattle.motion_cli.specs.declared.refusal.Refusal.{Refusal}
+use Rattle.motion_cli.specs.declared.refusal.Refusal.TheVariants.{Usage, Circuit, NotBuilt, Values, File, Memory}
+use Rattle.motion_cli.specs.Outcome.{Outcome, refused, reported, line, about, at_line}
+
+abbrev pub cause_of : FileCause → Text
+cause_of Missing = codes "missing"
+cause_of TooLong = codes "too long"
+cause_of Fault = codes "fault"
+
+-- the name of a cause in a circuit's text
+abbrev pub circuit_cause : CircuitCause → Text
+circuit_cause circuit.NotText = codes "NotText"
+circuit_cause circuit.Header = codes "Header"
+circuit_cause circuit.Word = codes "Word"
+circuit_cause circuit.NameTwice = codes "NameTwice"
+circuit_cause circuit.NameUnknown = codes "NameUnknown"
+circuit_cause circuit.WrongSharing = codes "WrongSharing"
+circuit_cause circuit.WrongWidth = codes "WrongWidth"
+circuit_cause circuit.BadNumber = codes "BadNumber"
+circuit_cause circuit.BadParty = codes "BadParty"
+circuit_cause circuit.TooMany = codes "TooMany"
+
+-- the name of a cause in a text of values
+abbrev pub values_cause : ValuesCause → Text
+values_cause values.NameUnknown = codes "NameUnknown"
+values_cause values.Missing = codes "Missing"
+values_cause values.Twice = codes "Twice"
+values_cause values.TooWide = codes "TooWide"
+values_cause values.Word = codes "Word"
+
+abbrev pub status_of : Refusal → Status
+status_of Usage = status.Usage
+status_of (Circuit name number cause) = status.Circuit
+status_of (NotBuilt name) = status.Circuit
+status_of (Values name number cause) = status.Values
+status_of (File name cause) = status.File
+status_of Memory = status.Memory
+
+abbrev pub line_of : Refusal → Text
+line_of Usage = line (codes "usage")
+line_of (Circuit name number cause) =
+    about (codes "circuit") name.now (at_line number (circuit_cause cause))
+line_of (NotBuilt name) = about (codes "circuit") name.now (line (codes "not built"))
+line_of (Values name number cause) = about (codes "values") name.now (at_line number (values_cause cause))
+line_of (File name cause) = about (codes "file") name.now (line (cause_of cause))
+line_of Memory = line (codes "memory")
+
+-- what a command comes to that ends with a refusal
+abbrev pub outcome_of : Refusal → Outcome
+outcome_of given = refused (status_of given) (line_of given)
+
+-- what a command comes to that gives a report or ends with a refusal
+abbrev pub came_to : Result (String Global) Refusal → Outcome
+came_to (Ok report) = reported (string_bytes report)
+came_to (Err given) = outcome_of given

@@ -1,0 +1,29 @@
+-- How words and files settle the way in which a call ends.
+use Rattle.std.specs.Prelude.{ℕ, ◌≡◌, ◌↔◌, ◌⊎◌, Option, Some}
+use Rattle.mot_base.specs.Faults.{Rose}
+use Rattle.mot_base.specs.Files.{Holding}
+use Rattle.mot_base.specs.Sink.{with_more}
+use Rattle.motion_cli.specs.Ending.{Outside, Leading}
+use Rattle.motion_cli.specs.Outcome.{Outcome, code_of}
+use Rattle.motion_cli.specs.Outcome.Kind.{report}
+
+-- a call ends with status 1 exactly where its words ask for nothing
+abbrev pub IsUsage : {R : Type 0} → (R → Type 0) → ℕ → Type 0
+IsUsage {R} asks status = (status ≡ 1) ↔ ((request : R) → ¬ (asks request))
+
+-- at status 0 the report was appended to which the words lead without any fault, and nothing else
+abbrev pub IsDone : {R : Type 0} → (R → Type 0) → Leading R → Outside → Outside → ℕ → Type 0
+IsDone {R} asks ends before after status =
+    status ≡ 0 → (request : R) × asks request
+    × (end : Outcome) × (end.kind ≡ report) × ends before.held ⊥ request end
+    × (after.appended ≡ with_more before.appended end.text)
+
+-- where files tell what they hold, and no count of faults rose, a call ends with what its words lead to
+-- without any fault, and the whole text was appended; or memory ran out
+abbrev pub IsComplete : {R : Type 0} → (R → Type 0) → Leading R → Outside → Outside → ℕ → Type 0
+IsComplete {R} asks ends before after status =
+    (held : Holding) → before.held ≡ Some held →
+    ¬ (Rose before.file_faults after.file_faults) → ¬ (Rose before.out_faults after.out_faults) →
+    (request : R) → asks request → (end : Outcome) → ends (Some held) ⊥ request end →
+    ((status ≡ code_of end.status) × (after.appended ≡ with_more before.appended end.text))
+    ⊎ (status ≡ 11)

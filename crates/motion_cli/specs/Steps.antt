@@ -1,0 +1,47 @@
+-- The steps of which commands are composed. Each says how it ends a command, or what comes after it. `rose`
+-- says that the files' count of faults rose.
+use Rattle.std.specs.Prelude.{ℕ, ◌≡◌, ◌≤◌, ◌⊎◌, length, codes, Option, Some, None, IfSome, IsSomeAnd}
+use Rattle.mot_base.specs.Limits.{most_file_bytes}
+use Rattle.mot_base.specs.Files.{Holding, IsTooLong}
+use Rattle.text_lines.specs.Text.{Text}
+use Rattle.motion_cli.specs.Outcome.{Outcome, file_refused}
+
+-- What files are told to hold, where anything is told.
+
+abbrev pub IsMissing : Option Holding → Text → Type 0
+IsMissing told name = IfSome told (λ held. held name ≡ None)
+
+abbrev pub IsOverlong : Option Holding → Text → Type 0
+IsOverlong told name = IfSome told (λ held. IsSomeAnd (held name) IsTooLong)
+
+abbrev pub IsContent : Option Holding → Text → Text → Type 0
+IsContent told name content =
+    (length content ≤ most_file_bytes) × IfSome told (λ held. held name ≡ Some content)
+
+-- a file is not loaded: it is missing, or too long, or the files failed
+abbrev pub IsUnloaded : Option Holding → Type 0 → Text → Outcome → Type 0
+IsUnloaded told rose name end =
+    (IsMissing told name × (end ≡ file_refused name (codes "missing")))
+    ⊎ ((IsOverlong told name × (end ≡ file_refused name (codes "too long")))
+    ⊎ (rose × (end ≡ file_refused name (codes "fault"))))
+
+-- a file is loaded, and leads on with its content
+abbrev pub Loads : Option Holding → Type 0 → Text → (Text → Outcome → Type 0) → Outcome → Type 0
+Loads told rose name next end =
+    IsUnloaded told rose name end ⊎ ((content : Text) × IsContent told name content × next content end)
+
+-- something is read: it shows its first fault, or it reads as this and leads on
+abbrev pub ReadsAs : {F C : Type 0} →
+    (F → Type 0) → (F → Outcome) → (C → Type 0) → (C → Outcome → Type 0) → Outcome → Type 0
+ReadsAs {F} {C} faulty refusal_of reads next end =
+    ((fault : F) × faulty fault × (end ≡ refusal_of fault))
+    ⊎ ((read : C) × reads read × next read end)
+
+-- a cause is judged: it is there and answered, or it is not and the command goes on
+abbrev pub Unless : Type 0 → Outcome → (Outcome → Type 0) → Outcome → Type 0
+Unless cause answer next end = (cause × (end ≡ answer)) ⊎ (¬ cause × next end)
+
+-- a line of a text, and the cause that it shows
+pub record Fault (C : Type 0) : Type 0 where
+  pub line : ℕ
+  pub cause : C

@@ -1,0 +1,175 @@
+//! What each command comes to.
+
+ghost use Rattle.std.specs.Prelude.{◌≡◌, ◌≤◌, ◌⊎◌, length, map, true, false, None, IfOk, IfErr, string_bytes};
+ghost use Rattle.mot_base.specs.Faults.{Rose};
+ghost use Rattle.mot_base.specs.Limits.{most_file_bytes};
+ghost use Rattle.circuit_values.specs.declared.cause.ValuesCause.{ValuesCause};
+ghost use Rattle.circuit_values.specs.Values.{ReadsValues, HaveWidths};
+ghost use Rattle.circuit_values.specs.Values as values;
+ghost use Rattle.mixed_circuit.specs.declared.cause.CircuitCause.{CircuitCause};
+ghost use Rattle.mixed_circuit.specs.Grammar.{Reads, FirstFault};
+ghost use Rattle.mixed_circuit.specs.Table.{inputs_of};
+ghost use Rattle.motion_cli.specs.Commands.{PlainReads, PlainEnds, LocalReads, LocalEnds, Reports};
+ghost use Rattle.motion_cli.specs.Outcome.{at_line, memory, reported, circuit_refused, values_refused};
+ghost use Rattle.motion_cli.specs.Refusal.{outcome_of, came_to, circuit_cause, values_cause};
+ghost use Rattle.motion_cli.specs.Report.{output_lines, parties_report};
+ghost use Rattle.motion_cli.specs.Run.{is_built, word_of_shares};
+ghost use Rattle.motion_cli.specs.Steps.{Fault};
+ghost use Rattle.motion_cli.specs.Words.{plain_request, local_request};
+
+use crate::load::load;
+use crate::refusal::Refusal;
+use crate::report::{Notation, report_all, report_parties};
+use crate::run::{Shares, is_built, run_on_shares};
+use crate::words::{LocalWords, PlainWords};
+use circuit_values::{Values, ValuesError, read_values};
+use mixed_circuit::{CircuitError, Mixed, plain, read_mixed};
+use mot_base::{Files, NoMemory};
+use std::alloc::Global;
+
+/// The report of `plain`: each output of the plain evaluation.
+pub(crate) fn plain_report<'a, F: Files>(
+    alloc: Global,
+    plain: &PlainWords<'a>,
+    files: &mut F,
+) -> Result<String, Refusal<'a>>
+    ensures came { PlainEnds (F.holds files.old) (Rose (F.faults files.old) (F.faults files.new))
+        (plain_request plain.entry.now) (came_to result)
+        ⊎ (came_to result ≡ memory) }
+    ensures same { F.holds files.new ≡ F.holds files.old }
+    ensures never_falls { F.faults files.old ≤ F.faults files.new }
+{
+    let circuit = load(alloc, files, plain.circuit)?;
+    let values = load(alloc, files, plain.values)?;
+    plain_of_texts(alloc, plain, circuit.as_slice(), values.as_slice())
+}
+
+/// The same, once both files are loaded.
+fn plain_of_texts<'a>(
+    alloc: Global,
+    words: &PlainWords<'a>,
+    circuit: &[u8],
+    values: &[u8],
+) -> Result<String, Refusal<'a>>
+    requires circuit { length circuit.now ≤ most_file_bytes }
+    requires values { length values.now ≤ most_file_bytes }
+    ensures { PlainReads (plain_request words.entry.now) circuit.now values.now (came_to result)
+        ⊎ (came_to result ≡ memory) }
+{
+    let circuit = circuit_of(alloc, words.circuit, circuit)?;
+    let values = values_of(alloc, words.values, &circuit, values)?;
+    let outputs = plain(alloc, &circuit, &values)?;
+    Ok(report_all(alloc, Notation::Decimal, &outputs)?)
+}
+
+/// The report of `local`: for each party, the outputs that it is told.
+pub(crate) fn local_report<'a, F: Files>(
+    alloc: Global,
+    local: &LocalWords<'a>,
+    files: &mut F,
+) -> Result<String, Refusal<'a>>
+    ensures came { LocalEnds (F.holds files.old) (Rose (F.faults files.old) (F.faults files.new))
+        (local_request local.entry.now) (came_to result)
+        ⊎ (came_to result ≡ memory) }
+    ensures same { F.holds files.new ≡ F.holds files.old }
+    ensures never_falls { F.faults files.old ≤ F.faults files.new }
+{
+    let circuit = load(alloc, files, local.circuit)?;
+    let values = load(alloc, files, local.values)?;
+    local_of_texts(alloc, local, circuit.as_slice(), values.as_slice())
+}
+
+/// The same, once both files are loaded.
+fn local_of_texts<'a>(
+    alloc: Global,
+    words: &LocalWords<'a>,
+    circuit: &[u8],
+    values: &[u8],
+) -> Result<String, Refusal<'a>>
+    requires circuit { length circuit.now ≤ most_file_bytes }
+    requires values { length values.now ≤ most_file_bytes }
+    ensures { LocalReads (local_request words.entry.now) circuit.now values.now (came_to result)
+        ⊎ (came_to result ≡ memory) }
+{
+    let circuit = circuit_of(alloc, words.circuit, circuit)?;
+    if !is_built(&circuit) {
+        return Err(Refusal::NotBuilt {
+            name: words.circuit,
+        });
+    }
+    let values = values_of(alloc, words.values, &circuit, values)?;
+    Ok(run_and_report(alloc, words, &circuit, &values)?)
+}
+
+/// Runs a circuit on shares, and reports its outputs.
+fn run_and_report(
+    alloc: Global,
+    words: &LocalWords<'_>,
+    circuit: &Mixed,
+    values: &Values,
+) -> Result<String, NoMemory>
+    requires built { is_built circuit.now ≡ true }
+    requires widths { HaveWidths None (inputs_of circuit.now.statements) values.now }
+    ensures { IfOk result (λ text. Reports circuit.now values.now
+        (λ outputs. parties_report Notation.Decimal outputs circuit.now.parties)
+        (reported (string_bytes text))) }
+{
+    let inputs = circuit.input_numbers(alloc, values)?;
+    let shares = run_on_shares(alloc, circuit, inputs.as_slice(), &words.seed)?;
+    let words = words_of(alloc, shares.as_slice())?;
+    let outputs = circuit.tell(alloc, words.as_slice())?;
+    report_parties(alloc, Notation::Decimal, &outputs, circuit.parties())
+}
+
+/// The words that shares stand for.
+fn words_of(alloc: Global, shares: &[Shares]) -> Result<Vec<u64>, NoMemory>
+    ensures { IfOk result (λ words. words.items ≡ map word_of_shares shares.now) }
+{
+    let mut words = Vec::with_capacity(alloc, shares.len())?;
+    for each in shares {
+        words.push(each.word())?;
+    }
+    Ok(words)
+}
+
+/// Reads the text of a circuit's file.
+fn circuit_of<'a>(alloc: Global, name: &'a str, text: &[u8]) -> Result<Mixed, Refusal<'a>>
+    requires { length text.now ≤ most_file_bytes }
+    ensures ok { IfOk result (λ circuit. Reads text.now circuit) }
+    ensures err { IfErr result (λ refusal.
+        ((fault : Fault CircuitCause) × FirstFault text.now fault.line fault.cause
+        × (outcome_of refusal
+        ≡ circuit_refused name.entry.now (at_line fault.line (circuit_cause fault.cause))))
+        ⊎ (outcome_of refusal ≡ memory)) }
+{
+    match read_mixed(alloc, text) {
+        Ok(circuit) => Ok(circuit),
+        Err(CircuitError::At { line, cause }) => Err(Refusal::Circuit { name, line, cause }),
+        Err(CircuitError::NoMemory) => Err(Refusal::Memory),
+    }
+}
+
+/// Reads the text of the file of the values of a circuit's inputs.
+fn values_of<'a>(
+    alloc: Global,
+    name: &'a str,
+    circuit: &Mixed,
+    text: &[u8],
+) -> Result<Values, Refusal<'a>>
+    requires { length text.now ≤ most_file_bytes }
+    ensures ok { IfOk result (λ read. ReadsValues (inputs_of circuit.now.statements) None text.now read) }
+    ensures widths { IfOk result (λ read. HaveWidths None (inputs_of circuit.now.statements) read) }
+    ensures err { IfErr result (λ refusal.
+        ((fault : Fault ValuesCause)
+        × values.FirstFault (inputs_of circuit.now.statements) None text.now fault.line fault.cause
+        × (outcome_of refusal
+        ≡ values_refused name.entry.now (at_line fault.line (values_cause fault.cause))))
+        ⊎ (outcome_of refusal ≡ memory)) }
+{
+    let inputs = circuit.inputs(alloc)?;
+    match read_values(alloc, text, &inputs, None) {
+        Ok(values) => Ok(values),
+        Err(ValuesError::At { line, cause }) => Err(Refusal::Values { name, line, cause }),
+        Err(ValuesError::NoMemory) => Err(Refusal::Memory),
+    }
+}

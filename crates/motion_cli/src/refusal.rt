@@ -1,0 +1,142 @@
+ghost use Rattle.std.specs.Prelude.{◌≡◌, IfOk, string_bytes};
+ghost use Rattle.motion_cli.specs.Refusal.{status_of, line_of, cause_of, circuit_cause, values_cause};
+
+use crate::status::Status;
+use circuit_values::ValuesCause;
+use mixed_circuit::CircuitCause;
+use mot_base::NoMemory;
+use std::alloc::{AllocError, Global};
+
+/// Why a command ends without a report.
+#[derive(Clone, Copy, Debug)]
+pub enum Refusal<'a> {
+    /// The words are outside the grammar.
+    Usage,
+    /// A line of the circuit of this name shows a cause.
+    Circuit {
+        name: &'a str,
+        line: u32,
+        cause: CircuitCause,
+    },
+    /// The circuit of this name is not built.
+    NotBuilt {
+        name: &'a str,
+    },
+    /// A line of the values of this name shows a cause.
+    Values {
+        name: &'a str,
+        line: u32,
+        cause: ValuesCause,
+    },
+    /// A file of this name was not loaded.
+    File {
+        name: &'a str,
+        cause: FileCause,
+    },
+    /// Memory ran out.
+    Memory,
+}
+
+/// Why a file was not loaded.
+#[derive(Clone, Copy, Debug, PartialEq, Eq)]
+pub enum FileCause {
+    /// There is no file of that name.
+    Missing,
+    /// It is longer than a file may be.
+    TooLong,
+    /// The files failed.
+    Fault,
+}
+
+impl FileCause {
+    /// The word for it in a refusal's line.
+    fn word(self) -> &'static str
+        ensures { result.now ≡ cause_of self }
+    {
+        match self {
+            FileCause::Missing => "missing",
+            FileCause::TooLong => "too long",
+            FileCause::Fault => "fault",
+        }
+    }
+}
+
+/// The name of a cause in a circuit's text.
+fn circuit_word(cause: CircuitCause) -> &'static str
+    ensures { result.now ≡ circuit_cause cause }
+{
+    match cause {
+        CircuitCause::NotText => "NotText",
+        CircuitCause::Header => "Header",
+        CircuitCause::Word => "Word",
+        CircuitCause::NameTwice => "NameTwice",
+        CircuitCause::NameUnknown => "NameUnknown",
+        CircuitCause::WrongSharing => "WrongSharing",
+        CircuitCause::WrongWidth => "WrongWidth",
+        CircuitCause::BadNumber => "BadNumber",
+        CircuitCause::BadParty => "BadParty",
+        CircuitCause::TooMany => "TooMany",
+    }
+}
+
+/// The name of a cause in a text of values.
+fn values_word(cause: ValuesCause) -> &'static str
+    ensures { result.now ≡ values_cause cause }
+{
+    match cause {
+        ValuesCause::NameUnknown => "NameUnknown",
+        ValuesCause::Missing => "Missing",
+        ValuesCause::Twice => "Twice",
+        ValuesCause::TooWide => "TooWide",
+        ValuesCause::Word => "Word",
+    }
+}
+
+impl Refusal<'_> {
+    /// The status that the program ends with.
+    pub fn status(&self) -> Status
+        ensures { result ≡ status_of self.entry.now }
+    {
+        match self {
+            Refusal::Usage => Status::Usage,
+            Refusal::Circuit { .. } | Refusal::NotBuilt { .. } => Status::Circuit,
+            Refusal::Values { .. } => Status::Values,
+            Refusal::File { .. } => Status::File,
+            Refusal::Memory => Status::Memory,
+        }
+    }
+
+    /// The line that is written, with its end.
+    pub fn line(&self, alloc: Global) -> Result<String, AllocError>
+        ensures { IfOk result (λ text. string_bytes text ≡ line_of self.entry.now) }
+    {
+        match self {
+            Refusal::Usage => String::from_str(alloc, "usage\n"),
+            Refusal::Circuit { name, line, cause } => {
+                let cause = circuit_word(*cause);
+                format!(in alloc; "circuit {name}: line {line}: {cause}\n")
+            }
+            Refusal::NotBuilt { name } => format!(in alloc; "circuit {name}: not built\n"),
+            Refusal::Values { name, line, cause } => {
+                let cause = values_word(*cause);
+                format!(in alloc; "values {name}: line {line}: {cause}\n")
+            }
+            Refusal::File { name, cause } => {
+                let cause = cause.word();
+                format!(in alloc; "file {name}: {cause}\n")
+            }
+            Refusal::Memory => String::from_str(alloc, "memory\n"),
+        }
+    }
+}
+
+impl From<NoMemory> for Refusal<'_> {
+    ghost use Rattle.std.specs.Prelude.{◌≡◌};
+    ghost use Rattle.motion_cli.specs.declared.refusal.Refusal.TheVariants.{Memory};
+
+    ghost from_gives = { λ _ refusal. refusal ≡ Memory };
+
+    fn from(_error: NoMemory) -> Self {
+        Refusal::Memory
+    }
+}

@@ -1,0 +1,5 @@
+pub mod TextLemmas
+pub mod WordLemmas
+pub mod LineLemmas
+pub mod ReaderLemmas
+pub mod ChainLemmas

@@ -1,0 +1,8 @@
+//! Texts as lines and words: what the readers of circuits and of values have in common.
+#![tactic(auto)]
+
+mod line;
+mod word;
+
+pub use line::{Lines, are_allowed, line_words_of};
+pub use word::{is_name_word, is_numeral, name_text, number, text_of};
