@@ -74,11 +74,13 @@ Asked {R} asks ends end =
     (((request : R) → ¬ (asks request)) × (end ≡ usage))
     ⊎ ((request : R) × asks request × (ends request end ⊎ (end ≡ memory)))
 
--- What a request leads to: from what files are told to hold, and from whether their count of faults rose, to an outcome.
+-- What a request leads to: from what files are told to hold, and from whether their count of faults rose, to
+-- an outcome.
 abbrev pub Leading : Type 0 → Type 1
 Leading R = Option Holding → Type 0 → R → Outcome → Type 0
 
--- a call ended as its words lead to, by what files were told to hold, and by whether their count of faults rose
+-- a call ended as its words lead to, by what files were told to hold, and by whether their count of faults
+-- rose
 abbrev pub EndsAs : {R : Type 0} → (R → Type 0) → Leading R → Outside → Outside → ℕ → Type 0
 EndsAs asks leads before after status =
     Ended (Asked asks (leads before.held (Rose before.file_faults after.file_faults))) before after status

@@ -83,8 +83,8 @@ abbrev pub shares_at : List Shares → Option ℕ → Shares
 shares_at shares None = record { first = 0; second = 0 }
 shares_at shares (Some at) = slice_index_or shares at (record { first = 0; second = 0 })
 
--- what the shares of a statement are made of: the seed of the run, its gate, the number of the triple that is next, its
--- owner and its input, if it is one, and the shares of its operands
+-- what the shares of a statement are made of: the seed of the run, its gate, the number of the triple that is
+-- next, its owner and its input, if it is one, and the shares of its operands
 pub record Given : Type 0 where
   pub seed : List ℕ
   pub gate : ℕ
@@ -116,8 +116,8 @@ given_to shape seed gate triple input before = record {
   y = shares_at before (slice_get shape.operands 1);
 }
 
--- the shares of the statement at a place, from those before it: its gate is its place, and the inputs and the triples
--- that the statements before it take are used up
+-- the shares of the statement at a place, from those before it: its gate is its place, and the inputs and the
+-- triples that the statements before it take are used up
 abbrev pub shares_of_statement :
     List Statement → List ℕ → List ℕ → List Shares → ℕ → Statement → Shares
 shares_of_statement statements inputs seed before at s =
@@ -125,7 +125,7 @@ shares_of_statement statements inputs seed before at s =
     (given_to s.shape seed at (count_triples (take at statements))
     (slice_index inputs (length (inputs_of (take at statements)))) before)
 
--- a run of statements on shares, under the seed of all tapes: each has the shares that the parties make for it
+-- a run of statements on shares, under the seed of all tapes: each has the shares that the parties make
 pub record IsRun (statements : List Statement) (inputs seed : List ℕ) (shares : List Shares) : Type 0 where
   pub count : length shares ≡ length statements
   pub each : (at : ℕ) (s : Statement) → slice_get statements at ≡ Some s →

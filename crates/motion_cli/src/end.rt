@@ -12,7 +12,8 @@ use std::alloc::Global;
 /// Writes what a command came to, and gives the number that the process ends with. Where there is no memory
 /// for the line of a refusal other than the usage, that is the refusal.
 pub fn end<S: Sink>(alloc: Global, out: &mut S, outcome: Result<String, Refusal<'_>>) -> u8
-    ensures written { IsWritten (S.appended out.old) (S.appended out.new) (Rose (S.faults out.old) (S.faults out.new))
+    ensures written { IsWritten
+        (S.appended out.old) (S.appended out.new) (Rose (S.faults out.old) (S.faults out.new))
         (came_to outcome.entry) result }
     ensures never_falls { S.faults out.old ≤ S.faults out.new }
 {
@@ -26,7 +27,8 @@ pub fn end<S: Sink>(alloc: Global, out: &mut S, outcome: Result<String, Refusal<
 /// Writes the line of a refusal.
 fn end_refused<S: Sink>(alloc: Global, out: &mut S, refusal: Refusal<'_>) -> u8
     requires { status_of refusal ≢ Status.Usage }
-    ensures written { IsWritten (S.appended out.old) (S.appended out.new) (Rose (S.faults out.old) (S.faults out.new))
+    ensures written { IsWritten
+        (S.appended out.old) (S.appended out.new) (Rose (S.faults out.old) (S.faults out.new))
         (outcome_of refusal.entry) result }
     ensures never_falls { S.faults out.old ≤ S.faults out.new }
 {

@@ -31,8 +31,8 @@ impl Shares {
     }
 }
 
-/// Whether `local` runs a circuit: one of two parties, of inputs, sums, differences and products of words, and
-/// outputs to all.
+/// Whether `local` runs a circuit: one of two parties, of inputs, sums, differences and products of words,
+/// and outputs to all.
 pub(crate) fn is_built(circuit: &Mixed) -> bool
     ensures { result ≡ is_built circuit.now }
 {
