@@ -3,13 +3,13 @@
 #![tactic(auto)]
 
 ghost use Rattle.std.specs.Prelude.{◌≡◌, ◌<◌, ◌≤◌, ◌%◌, ◌^◌, IfOk, map, nat_eq, if◌then◌else◌, bit_xor};
-ghost use Rattle.mot_base.specs.Limits.{most_parties, most_gates, session_count};
+ghost use Rattle.mot_base.specs.Limits.{most_parties, most_width, most_gates, session_count};
 ghost use Rattle.mot_base.specs.Tape.{shares_of_tape};
 ghost use Rattle.share_types.specs.Sums.{RecombinesByXor, each, xor_to};
 ghost use Rattle.boolean_gmw.specs.Shares.{flipped_share, opened_left, opened_right, closed_share};
 ghost use Rattle.boolean_gmw.specs.Sharing.{low_word, given_word, own_word, share_given};
 
-use mot_base::{MAX_PARTIES, NoMemory, Party, Seed, tape_shares};
+use mot_base::{MAX_PARTIES, MAX_WIDTH, NoMemory, Party, Seed, tape_shares};
 use share_types::{BitTriple, Bits};
 use std::alloc::Global;
 
@@ -90,11 +90,11 @@ fn share_for(own: Bits, tape: &[u64; MAX_PARTIES as usize], me: Party, to: Party
 /// The low bits of a word.
 fn low(word: u64, width: u8) -> Bits
     requires some { 1 ≤ width }
-    requires most { width ≤ 64 }
+    requires most { width ≤ most_width }
     ensures word { result.word ≡ word % 2 ^ width }
     ensures width { result.width ≡ width }
 {
-    Bits { word, width: 64 }.slice(0, width)
+    Bits { word, width: MAX_WIDTH }.slice(0, width)
 }
 
 /// A party's share of the XOR of two shared vectors of one width.

@@ -1,5 +1,5 @@
 ghost use Rattle.std.specs.Prelude.{◌≡◌, ◌<◌, ◌≤◌, ◌==◌, ◌++◌, [], ◌∷◌, length, slice_get, option_map, Some, OnOk, OnErr, IfOk};
-ghost use Rattle.mot_base.specs.Limits.{most_gates};
+ghost use Rattle.mot_base.specs.Limits.{most_width, most_gates};
 ghost use Rattle.share_types.specs.Bits as vector;
 
 use crate::bits::push_bits;
@@ -57,7 +57,7 @@ impl Outputs {
     /// Adds an output with the bits of a number, as many as the width, at the end.
     pub fn push(&mut self, name: &str, to: Receiver, word: u64, width: u8) -> Result<(), NoMemory>
         requires room { length self.old < most_gates }
-        requires width { width ≤ 64 }
+        requires width { width ≤ most_width }
         ensures ok { OnOk result (self.new
             ≡ self.old ++ record { name = name.now; to = to; bits = vector.bits width word } ∷ []) }
         ensures err { OnErr result (self.new ≡ self.old) }

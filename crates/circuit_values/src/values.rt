@@ -93,7 +93,7 @@ fn bits_of(bits: &[bool], at: usize, width: u8) -> Bits
 
 /// The number of some bits, the least first.
 pub fn number_of(bits: &[bool]) -> u64
-    requires { length bits.now ≤ 64 }
+    requires { length bits.now ≤ most_width }
     ensures value { result ≡ vector.number bits.now }
     ensures below { result < 2 ^ length bits.now }
 {
@@ -106,7 +106,7 @@ pub fn number_of(bits: &[bool]) -> u64
 
 /// What a bit at a place adds to a number.
 fn bit_value(bit: bool, at: usize) -> u64
-    requires { at < 64 }
+    requires { at < most_width }
     ensures { result ≡ 2 ^ at * vector.once bit }
 {
     if bit { 1 << at } else { 0 }

@@ -1,4 +1,5 @@
 ghost use Rattle.std.specs.Prelude.{◌≡◌, ◌<◌, ◌≤◌, ◌+◌, ◌-◌, ◌*◌, IfOk, map, bit_and, bit_xor};
+ghost use Rattle.mot_base.specs.Limits.{least_parties, most_parties};
 ghost use Rattle.std.specs.Int.{bit_at};
 ghost use Rattle.std.specs.List.{range_with_len};
 ghost use Rattle.dealer_maker.specs.Draws.{mult_words, shared_words, key_words, mult_drawn, bit_drawn, shared_drawn, share_drawn, key_drawn, owner_begin, rows};
@@ -13,8 +14,8 @@ use std::alloc::Global;
 pub(crate) struct Seat {
     pub(crate) parties: u8,
     pub(crate) party: u8,
-    pub ghost some: { 2 ≤ parties },
-    pub ghost most: { parties ≤ 8 },
+    pub ghost some: { least_parties ≤ parties },
+    pub ghost most: { parties ≤ most_parties },
     pub ghost inside: { party < parties },
 }
 

@@ -362,7 +362,7 @@ whole_grown q g fits =
       arity = (let count = g.arity in omega arith);
       operands = g.operands refl;
       some_width = widths.0;
-      most_width = widths.1;
+      in_most = widths.1;
       most_place = place_bound (states is_place_slot q.operation) q.place g.place;
       fits = ltb-true q.constant (2 ^ q.width) fits;
     }

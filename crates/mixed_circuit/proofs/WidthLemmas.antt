@@ -101,7 +101,7 @@ pub said_wide : (parties : ℕ) (before : List Statement) (s : Statement) (wire 
 said_wide parties before s wire wide said e =
     let by = said-by (record { parties = parties; statements = before }) said.words s said.is in
     let parts = by.parts in
-    let own : Fits parts.width = record { some = by.stated.whole.some_width; most = by.stated.whole.most_width } in
+    let own : Fits parts.width = record { some = by.stated.whole.some_width; most = by.stated.whole.in_most } in
     let operands = fit_operands before wide parts.operands by.means.operands by.means.found in
     let fits = fit_given (widths_of parts.operation) parts by.means.operands by.means.width own operands by.means.wide in
     let given = wire_type (gives parts.operation by.means.sharing) by.means.width in
@@ -179,7 +179,7 @@ told_narrow all values wide (s ∷ ss) = here (states is_told_slot s.shape.opera
 said_width : (parties : ℕ) (before : List Statement) (s : Statement) → IsSaid parties before s → s.shape.width ≤ 64
 said_width parties before s said =
     let by = said-by (record { parties = parties; statements = before }) said.words s said.is in
-    subst (λ (t : Statement). t.shape.width ≤ 64) (sym by.means.is) by.stated.whole.most_width
+    subst (λ (t : Statement). t.shape.width ≤ 64) (sym by.means.is) by.stated.whole.in_most
 
 inputs_few : (ss : List Statement) → ((at : ℕ) (s : Statement) → slice_get ss at ≡ Some s → s.shape.width ≤ 64) →
     AllByRecursion (λ x. x.width ≤ 64) (inputs_of ss)

@@ -1,5 +1,6 @@
 -- What the words of a line state, as the code keeps it.
 use Rattle.std.specs.Prelude.{ℕ, ◌≡◌, ◌<◌, ◌≤◌, ◌^◌, true, false, [], ◌∷◌, length, map, take, Option, Some, None, option_map, IsSome, if◌then◌else◌}
+use Rattle.mot_base.specs.Limits.{most_width}
 use Rattle.std.specs.List.{list_all}
 use Rattle.share_types.specs.declared.sharing.Sharing.{Sharing}
 use Rattle.mixed_circuit.specs.declared.raw.Raw.{Raw}
@@ -41,7 +42,7 @@ pub record AreWhole (parts : Parts) : Type 0 where
   pub arity : length parts.operands ≡ arity_of parts.operation
   pub operands : list_all is_name parts.operands ≡ true
   pub some_width : 1 ≤ parts.width
-  pub most_width : parts.width ≤ 64
+  pub in_most : parts.width ≤ most_width
   pub most_place : parts.place ≤ 63
   pub fits : parts.constant < 2 ^ parts.width
 

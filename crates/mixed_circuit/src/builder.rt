@@ -1,6 +1,6 @@
 ghost use Rattle.std.specs.Prelude.{◌≡◌, ◌<◌, ◌≤◌, true, length, map, nat_lt, option_map, is_some, None, IfOk};
 ghost use Rattle.mixed_circuit.specs.declared.cause.CircuitCause.TheVariants.{NameUnknown};
-ghost use Rattle.mot_base.specs.Limits.{most_statements};
+ghost use Rattle.mot_base.specs.Limits.{least_parties, most_parties, most_statements};
 ghost use Rattle.mixed_circuit.specs.Circuit.{no_statements, place_of, with_statement};
 ghost use Rattle.mixed_circuit.specs.Line.{is_new, operand_of, operands_of};
 ghost use Rattle.text_lines.specs.Chain.{or_cause};
@@ -39,8 +39,8 @@ impl Model for Builder {
 impl Builder {
     /// The circuit of no statement.
     pub fn new(alloc: Global, parties: u8) -> Builder
-        requires some { 2 ≤ parties }
-        requires most { parties ≤ 8 }
+        requires some { least_parties ≤ parties }
+        requires most { parties ≤ most_parties }
         ensures { result ≡ no_statements parties }
     {
         Builder {
@@ -51,7 +51,7 @@ impl Builder {
 
     pub fn parties(&self) -> u8
         ensures value { result ≡ self.now.parties }
-        ensures most { result ≤ 8 }
+        ensures most { result ≤ most_parties }
     {
         self.circuit.parties()
     }

@@ -1,4 +1,5 @@
 ghost use Rattle.std.specs.Prelude.{◌≡◌, ◌<◌, ◌≤◌, ◌==◌, length, map, slice_get, option_map, Some, None, IfOk, OnOk, OnErr};
+ghost use Rattle.mot_base.specs.Limits.{least_parties, most_parties};
 
 use crate::form::Form;
 use circuit_values::Values;
@@ -55,8 +56,8 @@ impl Mixed {
 
     /// The circuit of no statement.
     pub(crate) fn new(alloc: Global, parties: u8) -> Mixed
-        requires some { 2 ≤ parties }
-        requires most { parties ≤ 8 }
+        requires some { least_parties ≤ parties }
+        requires most { parties ≤ most_parties }
         ensures { result ≡ no_statements parties }
     {
         Mixed {

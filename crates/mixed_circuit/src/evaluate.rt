@@ -140,7 +140,7 @@ fn differing(x: u64, y: u64) -> u64
 
 /// A number with its lowest bits turned, as many as the width.
 fn flipped(x: u64, width: u8) -> u64
-    requires { width ≤ 64 }
+    requires { width ≤ most_width }
     ensures { result ≡ bit_xor x (2 ^ width - 1) % 2 ^ 64 }
 {
     x ^ ones(width)
@@ -148,7 +148,7 @@ fn flipped(x: u64, width: u8) -> u64
 
 /// The number whose lowest bits are 1, as many as the width, and no others.
 fn ones(width: u8) -> u64
-    requires { width ≤ 64 }
+    requires { width ≤ most_width }
     ensures { result ≡ 2 ^ width - 1 }
 {
     shifted_down(u64::MAX, MAX_WIDTH - width)
@@ -156,7 +156,7 @@ fn ones(width: u8) -> u64
 
 /// The lowest bits of a number, as many as the width.
 fn low_bits(x: u64, width: u8) -> u64
-    requires { width ≤ 64 }
+    requires { width ≤ most_width }
     ensures { result ≡ x % 2 ^ width }
 {
     x & ones(width)

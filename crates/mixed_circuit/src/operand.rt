@@ -1,5 +1,6 @@
 ghost use Rattle.std.specs.Prelude.{◌≡◌, ◌==◌, ◌+◌, nat_le, slice_get, true, Some, None, IfSome, if◌then◌else◌};
 ghost use Rattle.std.specs.List.{list_all};
+ghost use Rattle.mot_base.specs.Limits.{most_width};
 ghost use Rattle.mixed_circuit.specs.Circuit.{sharing_of, width_of, is_shared};
 ghost use Rattle.mixed_circuit.specs.Line.{sharing_given, alike_width, width_given};
 ghost use Rattle.mixed_circuit.specs.Language.{domain_of, is_in};
@@ -7,6 +8,7 @@ ghost use Rattle.mixed_circuit.specs.Stated.{stated, AreWhole};
 
 use crate::language::{Domain, Widths};
 use crate::raw::Raw;
+use mot_base::MAX_WIDTH;
 use share_types::{Sharing, WireType};
 
 /// An operand: the number of the statement that gives it, and how it is shared.
@@ -30,7 +32,7 @@ pub fn width_in(wire: WireType) -> u8
     ensures { result ≡ width_of wire }
 {
     match wire {
-        WireType::A => 64,
+        WireType::A => MAX_WIDTH,
         WireType::B(width) | WireType::Y(width) => width,
     }
 }
@@ -87,7 +89,7 @@ pub fn width_of_all(widths: Widths, raw: &Raw, operands: &[Operand]) -> Option<u
     ensures { result ≡ width_given widths (stated raw.now) operands.now }
 {
     match widths {
-        Widths::Whole => Some(64),
+        Widths::Whole => Some(MAX_WIDTH),
         Widths::Stated => Some(raw.width),
         Widths::Alike => width_alike(operands),
         Widths::Cut => match operands {
@@ -108,13 +110,17 @@ fn width_fits(place: u8, width: u8, wire: WireType) -> bool
     u16::from(place) + u16::from(width) <= u16::from(width_in(wire))
 }
 
-/// The width of two values joined, which is at most 64.
+/// The width of two values joined, which is at most that of a vector.
 fn width_joined(x: WireType, y: WireType) -> Option<u8>
-    ensures { result ≡ (if nat_le (width_of x + width_of y) 64 then Some (width_of x + width_of y) else
+    ensures { result ≡ (if nat_le (width_of x + width_of y) most_width then Some (width_of x + width_of y) else
         None) }
 {
     let width = u16::from(width_in(x)) + u16::from(width_in(y));
-    if width <= 64 { Some(width as u8) } else { None }
+    if width <= u16::from(MAX_WIDTH) {
+        Some(width as u8)
+    } else {
+        None
+    }
 }
 
 fn width_alike(operands: &[Operand]) -> Option<u8>

@@ -1,5 +1,5 @@
 ghost use Rattle.std.specs.Prelude.{◌≡◌, ◌≤◌, length, map, IfOk, IfErr, IfSome};
-ghost use Rattle.mot_base.specs.Limits.{most_file_bytes};
+ghost use Rattle.mot_base.specs.Limits.{least_parties, most_parties, most_file_bytes};
 ghost use Rattle.mixed_circuit.specs.Grammar.{is_title, parties_of, behind_words, behind, whole, Reads, IsFirstFault, EachReadsOrFaults};
 ghost use Rattle.mixed_circuit.specs.Gives.{Gives};
 ghost use Rattle.mixed_circuit.specs.Reading.{error_at, GivesAt};
@@ -145,8 +145,8 @@ fn is_title_line(words: &[&[u8]]) -> bool
 /// The number of parties, where the words are `parties` and such a number.
 fn parties_stated(words: &[&[u8]]) -> Option<u8>
     ensures value { result ≡ parties_of (map (λ word. word.now) words.now) }
-    ensures some { IfSome result (λ parties. 2 ≤ parties) }
-    ensures most { IfSome result (λ parties. parties ≤ 8) }
+    ensures some { IfSome result (λ parties. least_parties ≤ parties) }
+    ensures most { IfSome result (λ parties. parties ≤ most_parties) }
 {
     match words {
         [first, second] => {

@@ -1,4 +1,5 @@
 ghost use Rattle.std.specs.Prelude.{◌≡◌, ◌<◌, true, [], ◌∷◌, length, map, Some, IfOk, IfSome, IsSome, slice_index};
+ghost use Rattle.mot_base.specs.Limits.{most_parties};
 ghost use Rattle.mixed_circuit.specs.Language.{domain_of, is_in, arity_of};
 ghost use Rattle.mixed_circuit.specs.declared.language.Domain.TheVariants.{Vectors};
 ghost use Rattle.mixed_circuit.specs.declared.language.Operation.TheVariants.{InputBits, ConstBits, Xor, And, Not, Slice, Join};
@@ -21,7 +22,7 @@ use text_lines::name_text;
 pub fn form_of(raw: &Raw, sharing: Sharing, x: u32, y: u32) -> Form
     requires whole { AreWhole (stated raw.now) }
     requires sharing { is_in (domain_of raw.now.operation) sharing ≡ true }
-    requires party { IfSome raw.now.party (λ party. party < 8) }
+    requires party { IfSome raw.now.party (λ party. party < most_parties) }
     ensures { shape_of result ≡ shape_stated (stated raw.now) sharing x y }
 {
     let c = raw.constant;
@@ -142,7 +143,7 @@ fn join_form(sharing: Sharing, x: u32, y: u32) -> Form
 /// The party whose input a line says.
 fn owner(raw: &Raw) -> Party
     requires there { IsSome raw.now.party }
-    requires party { IfSome raw.now.party (λ party. party < 8) }
+    requires party { IfSome raw.now.party (λ party. party < most_parties) }
     ensures { raw.now.party ≡ Some result.0 }
 {
     match raw.party {
@@ -153,7 +154,7 @@ fn owner(raw: &Raw) -> Party
 
 /// Who is told, as a line says.
 fn receiver(raw: &Raw) -> Receiver
-    requires { IfSome raw.now.party (λ party. party < 8) }
+    requires { IfSome raw.now.party (λ party. party < most_parties) }
     ensures { party_told result ≡ raw.now.party }
 {
     match raw.party {
@@ -184,7 +185,7 @@ pub fn statement_said(
 ) -> Result<Statement, AllocError>
     requires whole { AreWhole (stated raw.now) }
     requires sharing { is_in (domain_of raw.now.operation) sharing ≡ true }
-    requires party { IfSome raw.now.party (λ party. party < 8) }
+    requires party { IfSome raw.now.party (λ party. party < most_parties) }
     requires arity { length operands.now ≡ arity_of raw.now.operation }
     ensures { IfOk result (λ s. s ≡ statement_of (stated raw.now) operands.now sharing width) }
 {

@@ -1,5 +1,5 @@
 ghost use Rattle.std.specs.Prelude.{◌≡◌, ◌<◌, ◌≤◌, ◌+◌, ◌++◌, [], ◌∷◌, length, slice_get, slice_index, All, None, IfOk, IfSome, OnOk};
-ghost use Rattle.mot_base.specs.Limits.{most_gates};
+ghost use Rattle.mot_base.specs.Limits.{most_width, most_gates};
 ghost use Rattle.share_types.specs.Bits.{bits};
 ghost use Rattle.circuit_values.specs.Values.{HaveWidths};
 ghost use Rattle.mixed_circuit.specs.Table.{inputs_of, name_at, width_at};
@@ -16,7 +16,7 @@ use std::alloc::Global;
 pub fn plain(alloc: Global, circuit: &Mixed, values: &Values) -> Result<Outputs, NoMemory>
     requires { HaveWidths None (inputs_of circuit.now.statements) values.now }
     ensures plain { IfOk result (λ outputs. IsPlain circuit.now values.now outputs) }
-    ensures widths { IfOk result (λ outputs. All (λ t. length t.bits ≤ 64) outputs) }
+    ensures widths { IfOk result (λ outputs. All (λ t. length t.bits ≤ most_width) outputs) }
 {
     let inputs = circuit.input_numbers(alloc, values)?;
     let numbers = values_of(alloc, circuit, inputs.as_slice())?;
@@ -28,7 +28,7 @@ impl Mixed {
     pub fn tell(&self, alloc: Global, values: &[u64]) -> Result<Outputs, NoMemory>
         requires { length values.now ≡ length self.now.statements }
         ensures value { IfOk result (λ outputs. outputs ≡ told_of self.now values.now) }
-        ensures widths { IfOk result (λ outputs. All (λ t. length t.bits ≤ 64) outputs) }
+        ensures widths { IfOk result (λ outputs. All (λ t. length t.bits ≤ most_width) outputs) }
     {
         let mut outputs = Outputs::new(alloc);
         for at in 0..self.len() {

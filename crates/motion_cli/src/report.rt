@@ -1,4 +1,5 @@
 ghost use Rattle.std.specs.Prelude.{◌≡◌, ◌<◌, ◌≤◌, ◌++◌, All, length, slice_get, [], IfOk, IfSome, OnOk, string_bytes, if◌then◌else◌};
+ghost use Rattle.mot_base.specs.Limits.{most_width};
 ghost use Rattle.circuit_values.specs.Table.{is_receiver};
 ghost use Rattle.motion_cli.specs.Report.{output_line, output_lines, told_to, party_report, parties_report};
 
@@ -20,7 +21,7 @@ pub(crate) fn report_all(
     notation: Notation,
     outputs: &Outputs,
 ) -> Result<String, NoMemory>
-    requires { All (λ t. length t.bits ≤ 64) outputs.now }
+    requires { All (λ t. length t.bits ≤ most_width) outputs.now }
     ensures { IfOk result (λ text. string_bytes text ≡ output_lines notation outputs.now) }
 {
     let mut text = String::new(alloc);
@@ -37,7 +38,7 @@ pub(crate) fn report_parties(
     outputs: &Outputs,
     parties: u8,
 ) -> Result<String, NoMemory>
-    requires { All (λ t. length t.bits ≤ 64) outputs.now }
+    requires { All (λ t. length t.bits ≤ most_width) outputs.now }
     ensures { IfOk result (λ text. string_bytes text ≡ parties_report notation outputs.now parties) }
 {
     let mut text = String::new(alloc);
@@ -54,7 +55,7 @@ fn push_party(
     outputs: &Outputs,
     party: Party,
 ) -> Result<(), AllocError>
-    requires { All (λ t. length t.bits ≤ 64) outputs.now }
+    requires { All (λ t. length t.bits ≤ most_width) outputs.now }
     ensures { OnOk result
         (string_bytes text.new ≡ string_bytes text.old ++ party_report notation outputs.now party.0) }
 {
@@ -70,7 +71,7 @@ fn push_told(
     outputs: &Outputs,
     party: Party,
 ) -> Result<(), AllocError>
-    requires { All (λ t. length t.bits ≤ 64) outputs.now }
+    requires { All (λ t. length t.bits ≤ most_width) outputs.now }
     ensures { OnOk result
         (string_bytes text.new
         ≡ string_bytes text.old ++ output_lines notation (told_to party.0 outputs.now)) }
@@ -90,7 +91,7 @@ fn push_if_told(
     party: Party,
 ) -> Result<(), AllocError>
     requires at { at < length outputs.now }
-    requires width { All (λ t. length t.bits ≤ 64) outputs.now }
+    requires width { All (λ t. length t.bits ≤ most_width) outputs.now }
     ensures { OnOk result (IfSome (slice_get outputs.now at) (λ output.
         string_bytes text.new
         ≡ string_bytes text.old
@@ -121,7 +122,7 @@ fn push_output(
     at: u32,
 ) -> Result<(), AllocError>
     requires at { at < length outputs.now }
-    requires width { All (λ t. length t.bits ≤ 64) outputs.now }
+    requires width { All (λ t. length t.bits ≤ most_width) outputs.now }
     ensures { OnOk result (IfSome (slice_get outputs.now at) (λ output.
         string_bytes text.new ≡ string_bytes text.old ++ output_line notation output)) }
 {

@@ -11,7 +11,7 @@ pub struct Bits {
     pub word: u64,
     pub width: u8,
     pub ghost some_width: { 1 ≤ width },
-    pub ghost most_width: { width ≤ 64 },
+    pub ghost most_width: { width ≤ most_width },
     pub ghost in_width: { word < 2 ^ width },
 }
 
@@ -95,7 +95,7 @@ impl Bits {
 /// The number whose lowest `width` bits are 1 and no others.
 fn ones(width: u8) -> u64
     requires some { 1 ≤ width }
-    requires most { width ≤ 64 }
+    requires most { width ≤ most_width }
     ensures { result ≡ 2 ^ width - 1 }
 {
     u64::MAX >> (MAX_WIDTH - width)
