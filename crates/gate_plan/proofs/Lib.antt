@@ -1,0 +1,2 @@
+pub mod NeedsLemmas
+pub mod PlanLemmas

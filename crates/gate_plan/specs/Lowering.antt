@@ -1,0 +1,154 @@
+-- The gates of a circuit's statements.
+use Rattle.std.specs.Prelude.{ℕ, zero, suc, ◌≡◌, ◌<◌, ◌≤◌, ◌+◌, ◌-◌, ◌*◌, ◌^◌, Bool, true, false, not, ◌&&◌, List, [], ◌∷◌, ◌++◌, length, map, take, slice_get, slice_index, Option, Some, None, option_map, if◌then◌else◌}
+use Rattle.std.specs.List.{list_all}
+use Rattle.std.specs.Option.{unwrap_or, option_or}
+use Rattle.share_types.specs.declared.sharing.Sharing.{Sharing}
+use Rattle.share_types.specs.declared.sharing.Sharing.TheVariants as sharing
+use Rattle.mixed_circuit.specs.declared.language.Operation.{Operation}
+use Rattle.mixed_circuit.specs.declared.language.Operation.TheVariants.{InputWord, InputBits, ConstWord, ConstBits, Add, Sub, Mul, AddConst, MulConst, Xor, And, Not, Slice, Join, A2Y, A2B, B2Y, Y2B, B2A, Y2A, Output}
+use Rattle.mixed_circuit.specs.Circuit.{Circuit, Statement, Shape, sharing_of, width_of, wire_at}
+use Rattle.mixed_circuit.specs.Table.{inputs_of, width_at, told_value}
+use Rattle.mixed_circuit.specs.Table as table
+use Rattle.circuit_values.specs.declared.receiver.Receiver.{Receiver}
+use Rattle.gate_plan.specs.Gate.{Kind, Gate, InA, ConstA, AddA, SubA, AddConstA, MulConstA, MulA, OutA, InB, ConstB, XorB, XorConstB, SliceB, JoinB, AndB, OutB}
+use Rattle.gate_plan.specs.Plan.{Gates}
+
+-- ---- how many gates the statements of a circuit have
+
+-- how the value of a statement is shared, or the value that it tells
+abbrev pub sharing_handled : List Statement → Statement → Option Sharing
+sharing_handled all s = option_or s.shape.sharing (option_map sharing_of (wire_at all (told_value s)))
+
+abbrev pub is_keys : Option Sharing → Bool
+is_keys (Some sharing.Y) = true
+is_keys _ = false
+
+-- the gates of an adder of two words that are shared as keys
+abbrev pub adder_gates : ℕ
+adder_gates = 1073
+
+-- how many gates an operation has among so many parties, where its value or what it tells is shared as keys or not: one
+-- for each part of a pair of mask and masked bits, three for an AND of keys, a mask and an entry for each party whose
+-- share becomes a summand, and then what joins two summands
+abbrev pub gates_of : ℕ → Operation → Bool → ℕ
+gates_of parties A2Y keys = 2 * parties + adder_gates * (parties - 1)
+gates_of parties A2B keys = 2 * parties + adder_gates * (parties - 1) + 1
+gates_of parties B2Y keys = 2 * parties + 2 * (parties - 1)
+gates_of parties Y2B keys = 1
+gates_of parties B2A keys = 1
+gates_of parties Y2A keys = 2
+gates_of parties Not keys = 1
+gates_of parties And true = 3
+gates_of parties _ true = 2
+gates_of parties _ false = 1
+
+abbrev pub gates_in : ℕ → List Statement → Option Statement → ℕ
+gates_in parties all None = 0
+gates_in parties all (Some s) = gates_of parties s.shape.operation (is_keys (sharing_handled all s))
+
+-- how many gates the statements before a place have together, which is the number of the first gate there
+abbrev pub gates_before : ℕ → List Statement → ℕ → ℕ
+gates_before parties all zero = 0
+gates_before parties all (suc n) = gates_before parties all n + gates_in parties all (slice_get all n)
+
+-- how many gates a circuit has
+abbrev pub all_gates : Circuit → ℕ
+all_gates c = gates_before c.parties c.statements (length c.statements)
+
+-- ---- which statements are built
+
+abbrev pub is_conversion : Operation → Bool
+is_conversion A2Y = true
+is_conversion A2B = true
+is_conversion B2Y = true
+is_conversion Y2B = true
+is_conversion B2A = true
+is_conversion Y2A = true
+is_conversion _ = false
+
+-- neither takes nor gives a value that is shared as keys, and converts none
+abbrev pub is_built : List Statement → Statement → Bool
+is_built all s = not (is_conversion s.shape.operation) && not (is_keys (sharing_handled all s))
+
+abbrev pub all_built : Circuit → Bool
+all_built c = list_all (is_built c.statements) c.statements
+
+-- ---- the gates of a statement
+
+-- what the gate of a statement is made of: the gates of its operands, the number of its input, the party whose input it
+-- is, who is told, the sharing of what it tells, the width of its value, and the place and the constant that its line
+-- states
+pub record Source : Type 0 where
+  pub x : ℕ
+  pub y : ℕ
+  pub k : ℕ
+  pub party : ℕ
+  pub to : Receiver
+  pub told : Option Sharing
+  pub width : ℕ
+  pub place : ℕ
+  pub constant : ℕ
+
+-- the output gate of what is shared so
+abbrev pub output_kind : Option Sharing → ℕ → Receiver → Kind
+output_kind (Some sharing.A) x to = OutA x to
+output_kind _ x to = OutB x to
+
+-- the gate of an operation that is built
+abbrev pub kind_made : Operation → Source → Option Kind
+kind_made InputWord v = Some (InA v.party v.k)
+kind_made InputBits v = Some (InB v.party v.k 0)
+kind_made ConstWord v = Some (ConstA v.constant)
+kind_made ConstBits v = Some (ConstB v.constant)
+kind_made Add v = Some (AddA v.x v.y)
+kind_made Sub v = Some (SubA v.x v.y)
+kind_made Mul v = Some (MulA v.x v.y)
+kind_made AddConst v = Some (AddConstA v.x v.constant)
+kind_made MulConst v = Some (MulConstA v.x v.constant)
+kind_made Xor v = Some (XorB v.x v.y)
+kind_made And v = Some (AndB v.x v.y)
+kind_made Not v = Some (XorConstB v.x (2 ^ v.width - 1))
+kind_made Slice v = Some (SliceB v.x v.place)
+kind_made Join v = Some (JoinB v.x v.y)
+kind_made Output v = Some (output_kind v.told v.x v.to)
+kind_made _ v = None
+
+-- the width of the value of a statement, or of the value that it tells
+abbrev pub width_handled : List Statement → Statement → ℕ
+width_handled all s = unwrap_or (option_map width_of s.wire) (width_at all (told_value s))
+
+-- the first gate of the statement at the place of an operand, if there is one
+abbrev pub operand_gate : ℕ → List Statement → Option ℕ → ℕ
+operand_gate parties all None = 0
+operand_gate parties all (Some at) = gates_before parties all at
+
+abbrev pub source_of : ℕ → List Statement → ℕ → Statement → Source
+source_of parties all at s = record {
+  x = operand_gate parties all (slice_get s.shape.operands 0);
+  y = operand_gate parties all (slice_get s.shape.operands 1);
+  k = length (inputs_of (take at all));
+  party = unwrap_or s.shape.party 0;
+  to = table.receiver_of s.shape.party;
+  told = option_map sharing_of (wire_at all (told_value s));
+  width = width_handled all s;
+  place = s.shape.place;
+  constant = s.shape.constant;
+}
+
+abbrev pub gate_list : Option Kind → ℕ → List Gate
+gate_list None width = []
+gate_list (Some kind) width = record { kind = kind; width = width } ∷ []
+
+abbrev pub expansion : ℕ → List Statement → ℕ → Option Statement → List Gate
+expansion parties all at None = []
+expansion parties all at (Some s) =
+    gate_list (kind_made s.shape.operation (source_of parties all at s)) (width_handled all s)
+
+-- the gates of the statements before a place, one after another
+abbrev pub lowered_before : ℕ → List Statement → ℕ → List Gate
+lowered_before parties all zero = []
+lowered_before parties all (suc n) = lowered_before parties all n ++ expansion parties all n (slice_get all n)
+
+-- the plan of a circuit whose statements are built
+abbrev pub lowered : Circuit → Gates
+lowered c = record { parties = c.parties; gates = lowered_before c.parties c.statements (length c.statements) }

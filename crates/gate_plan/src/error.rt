@@ -1,0 +1,27 @@
+ghost use Rattle.std.specs.Prelude.{◌≡◌};
+
+use std::alloc::AllocError;
+use thiserror::Error;
+
+/// Why a circuit is not lowered.
+#[derive(Clone, Copy, Debug, PartialEq, Eq, Error)]
+pub enum PlanError {
+    /// Some statement takes or gives a value that is shared as keys, or converts a value.
+    #[error("a statement of the circuit cannot be run yet")]
+    NotBuilt,
+    /// The circuit has more than 4,194,304 gates: so many.
+    #[error("the circuit has {gates} gates")]
+    TooManyGates { gates: u64 },
+    #[error("out of memory")]
+    NoMemory,
+}
+
+impl From<AllocError> for PlanError {
+    ghost from_gives = { λ _ e. e ≡ NoMemory };
+
+    ghost use Rattle.gate_plan.specs.declared.error.PlanError.TheVariants.{NoMemory};
+
+    fn from(_error: AllocError) -> PlanError {
+        PlanError::NoMemory
+    }
+}
