@@ -1,5 +1,5 @@
 -- The messages of a plan: who sends what to whom at which gate, in which round.
-use Rattle.std.specs.Prelude.{ℕ, zero, suc, ◌≡◌, ◌+◌, ◌*◌, Bool, false, ◌&&◌, not, ◌==◌, nat_lt, List, [], ◌∷◌, length, filter, slice_get, Option, Some, None, option_map, is_some, if◌then◌else◌}
+use Rattle.std.specs.Prelude.{ℕ, zero, suc, ◌≡◌, ◌+◌, ◌*◌, Bool, false, ◌&&◌, not, ◌==◌, nat_lt, List, [], ◌∷◌, ◌++◌, length, filter, slice_get, Option, Some, None, option_map, is_some, if◌then◌else◌}
 use Rattle.std.specs.List.{list_any}
 use Rattle.std.specs.Option.{unwrap_or}
 use Rattle.mot_base.specs.declared.Party.{Party}
@@ -10,13 +10,9 @@ use Rattle.message_demux.specs.declared.slots.SlotSpec.{SlotSpec}
 use Rattle.message_demux.specs.declared.slots.Shape.{Shape}
 use Rattle.message_demux.specs.declared.slots.Shape.TheVariants.{Words, Vectors}
 use Rattle.message_demux.specs.Slots.{listed, slot_at, vector_bytes, IsSlotList}
+use Rattle.gate_plan.specs.declared.message.Message.{Message}
 use Rattle.gate_plan.specs.Gate.{Kind, Gate, InA, MulA, OutA, InB, AndB, OutB, receiver_of}
 use Rattle.gate_plan.specs.Plan.{Gates}
-
--- a payload: its length in bytes, and how they are to be read
-pub record Message : Type 0 where
-  pub len : ℕ
-  pub shape : Shape
 
 -- so many words of 8 bytes, and so many vectors of a width
 abbrev pub words : ℕ → Message
@@ -82,6 +78,15 @@ awaits plan to g (suc stage) = slice_get (heard_rounds plan to g) stage
 -- the message of a slot as one that is expected
 abbrev pub spec_of : ℕ → ℕ → ℕ → Message → SlotSpec
 spec_of from g round m = record { from = record { 0 = from }; gate = g; round = round; len = m.len; shape = m.shape }
+
+-- the messages of one party to another at the gates before a place, in order. A gate has one round at most
+abbrev pub slot_list : ℕ → ℕ → Option Message → List SlotSpec
+slot_list from g None = []
+slot_list from g (Some m) = spec_of from g 0 m ∷ []
+
+abbrev pub slots_from : Gates → ℕ → ℕ → ℕ → List SlotSpec
+slots_from plan from to zero = []
+slots_from plan from to (suc g) = slots_from plan from to g ++ slot_list from g (message plan from to g 0)
 
 -- the messages to a party, each in its slot, and no other
 pub record AreSlotsTo (plan : Gates) (to : ℕ) (specs : List SlotSpec) : Type 0 where

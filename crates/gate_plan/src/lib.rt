@@ -3,9 +3,14 @@
 
 mod error;
 mod gate;
+mod laws;
+mod message;
 mod needs;
 mod plan;
+mod slots;
 
 pub use error::PlanError;
 pub use gate::GateKind;
+pub use laws::records_never_meet;
+pub use message_demux::{Shape, SlotSpec};
 pub use plan::Plan;

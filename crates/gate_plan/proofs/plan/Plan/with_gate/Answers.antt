@@ -32,15 +32,15 @@ invariant_of-result c =
     let gates = c.self.inside.gates.items in
     let gate : Gate = record { kind = kind_of c.args.kind; width = c.args.width } in
     let P : List Gate → Type 0 = λ all. IsPlan (fields parties all)
-        × (c.push.new.self.items ≡ offsets_of all)
-        × (c.sum_of_needs-needs.result ≡ offset all (length all)) in
+    × (c.push.new.self.items ≡ offsets_of all)
+    × (c.sum_of_needs-needs.result ≡ offset all (length all)) in
     let is = subst (λ (p : Gates). IsGate p.parties p.gates gate) (sym c.self.view_is) c.requires.gate in
     let room = subst (λ (p : Gates). length p.gates < 4194304) (sym c.self.view_is) c.requires.room in
     let pushed = c.in_ok-push.ensures.items in
     let first = pushed ∙ (ap (λ ns. ns ++ c.self.inside.needs ∷ []) c.self.invariant.1
-        ∙ ap (λ n. offsets_of gates ++ n ∷ []) c.self.invariant.2) ∙ sym (offsets-push gates gate) in
+    ∙ ap (λ n. offsets_of gates ++ n ∷ []) c.self.invariant.2) ∙ sym (offsets-push gates gate) in
     let sum = c.sum_of_needs-needs.ensures
-        ∙ ap (λ n. sum_of_needs n c.needs_of.result) c.self.invariant.2
-        ∙ ap (λ n. sum_of_needs (offset gates (length gates)) n) c.needs_of.ensures
-        ∙ sym (offset-next gates gate) in
+    ∙ ap (λ n. sum_of_needs n c.needs_of.result) c.self.invariant.2
+    ∙ ap (λ n. sum_of_needs (offset gates (length gates)) n) c.needs_of.ensures
+    ∙ sym (offset-next gates gate) in
     subst P (sym c.in_ok-push-2.ensures.items) (IsPlan-push (fields parties gates) gate c.self.invariant.0 room is, first, sum)

@@ -1,0 +1,8 @@
+use Rattle.std.proofs.Common.{◌≡◌, ◌+◌, true, false, length, refl, sym, ◌∙◌, ap, arith}
+use Rattle.gate_plan.specs.Messages.{stages, hears, heard_rounds}
+use Rattle.gate_plan.proofs.MessageLemmas.{heard_is}
+use Rattle.gate_plan.proofs.plan.Plan.stages.Goals as goal
+
+pub returns-then-hears : goal.returns-then-hears
+returns-then-hears c =
+    sym (ap (λ xs. 1 + length xs) (heard_is c.args.self.now c.args.party.0 c.args.gate true (sym c.hears.ensures ∙ c.if-hears.true)))
