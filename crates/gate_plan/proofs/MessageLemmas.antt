@@ -190,9 +190,9 @@ pub count_next : (test : Gate → Bool) (gates : List Gate) (g count : ℕ) (gat
     count + cond b 1 0 ≡ length (filter test (take (g + 1) gates))
 count_next test gates g count gate b there e before =
     before_more ∙ sym (ap (λ xs. length (filter test xs)) (take_next gates g gate there)
-        ∙ ap (λ (xs : List Gate). length xs) (filter-append test (take g gates) (gate ∷ []))
-        ∙ length-append (filter test (take g gates)) (filter test (gate ∷ []))
-        ∙ ap (λ n. length (filter test (take g gates)) + n) (one b e))
+    ∙ ap (λ (xs : List Gate). length xs) (filter-append test (take g gates) (gate ∷ []))
+    ∙ length-append (filter test (take g gates)) (filter test (gate ∷ []))
+    ∙ ap (λ n. length (filter test (take g gates)) + n) (one b e))
   where
     before_more : count + cond b 1 0 ≡ length (filter test (take g gates)) + cond b 1 0
     before_more = ap (λ n. n + cond b 1 0) before

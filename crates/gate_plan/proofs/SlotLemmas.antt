@@ -327,6 +327,6 @@ slots_all plan valid to = record { sorted = lists; each = exactly }
                 let same : slot_of (get_or all k d) ≡ slot = slot_same _ _ (tied (slot_cmp (slot_of (get_or all k d)) slot) t) in
                 let is = get_all (IsOf plan to plan.parties (length plan.gates)) all k d (of_senders plan to plan.parties) h in
                 let sent : message plan from to g round ≡ Some (record { len = (get_or all k d).len; shape = (get_or all k d).shape }) =
-                    sym (ap (λ (s : Slot). message plan s.from.0 to s.gate s.round) same) ∙ is.sent in
+                sym (ap (λ (s : Slot). message plan s.from.0 to s.gate s.round) same) ∙ is.sent in
                 let contrary = sym e ∙ sent in
                 cc

@@ -1,14 +1,13 @@
 -- The gates of a circuit's statements.
-use Rattle.std.specs.Prelude.{ℕ, zero, suc, ◌≡◌, ◌<◌, ◌≤◌, ◌+◌, ◌-◌, ◌*◌, ◌^◌, Bool, true, false, not, ◌&&◌, List, [], ◌∷◌, ◌++◌, length, map, take, slice_get, slice_index, Option, Some, None, option_map, if◌then◌else◌}
+use Rattle.std.specs.Prelude.{ℕ, zero, suc, ◌+◌, ◌-◌, ◌*◌, ◌^◌, Bool, true, false, not, ◌&&◌, List, [], ◌∷◌, ◌++◌, length, take, slice_get, Option, Some, None, option_map, if◌then◌else◌}
 use Rattle.std.specs.List.{list_all}
-use Rattle.std.specs.Option.{unwrap_or, option_or}
-use Rattle.share_types.specs.declared.sharing.Sharing.{Sharing}
-use Rattle.share_types.specs.declared.sharing.Sharing.TheVariants as sharing
+use Rattle.std.specs.Option.{unwrap_or}
+use Rattle.share_types.specs.declared.sharing.WireType.{WireType}
+use Rattle.share_types.specs.declared.sharing.WireType.TheVariants as wire
 use Rattle.mixed_circuit.specs.declared.language.Operation.{Operation}
 use Rattle.mixed_circuit.specs.declared.language.Operation.TheVariants.{InputWord, InputBits, ConstWord, ConstBits, Add, Sub, Mul, AddConst, MulConst, Xor, And, Not, Slice, Join, A2Y, A2B, B2Y, Y2B, B2A, Y2A, Output}
-use Rattle.mixed_circuit.specs.Circuit.{Circuit, Statement, Shape, sharing_of, width_of, wire_at}
-use Rattle.mixed_circuit.specs.Table.{inputs_of, width_at, told_value}
-use Rattle.mixed_circuit.specs.Table as table
+use Rattle.mixed_circuit.specs.Circuit.{Circuit, Statement, Shape, width_of, wire_at}
+use Rattle.mixed_circuit.specs.Table.{inputs_of, told_value, receiver_of}
 use Rattle.circuit_values.specs.declared.receiver.Receiver.{Receiver}
 use Rattle.gate_plan.specs.Gate.{Kind, Gate, InA, ConstA, AddA, SubA, AddConstA, MulConstA, MulA, OutA, InB, ConstB, XorB, XorConstB, SliceB, JoinB, AndB, OutB}
 use Rattle.gate_plan.specs.Plan.{Gates}
@@ -16,11 +15,15 @@ use Rattle.gate_plan.specs.Plan.{Gates}
 -- ---- how many gates the statements of a circuit have
 
 -- how the value of a statement is shared, or the value that it tells
-abbrev pub sharing_handled : List Statement → Statement → Option Sharing
-sharing_handled all s = option_or s.shape.sharing (option_map sharing_of (wire_at all (told_value s)))
+abbrev pub wire_by : Operation → Option WireType → Option WireType → Option WireType
+wire_by Output told own = told
+wire_by _ told own = own
 
-abbrev pub is_keys : Option Sharing → Bool
-is_keys (Some sharing.Y) = true
+abbrev pub wire_handled : List Statement → Statement → Option WireType
+wire_handled all s = wire_by s.shape.operation (wire_at all (told_value s)) s.wire
+
+abbrev pub is_keys : Option WireType → Bool
+is_keys (Some (wire.Y width)) = true
 is_keys _ = false
 
 -- the gates of an adder of two words that are shared as keys
@@ -44,7 +47,7 @@ gates_of parties _ false = 1
 
 abbrev pub gates_in : ℕ → List Statement → Option Statement → ℕ
 gates_in parties all None = 0
-gates_in parties all (Some s) = gates_of parties s.shape.operation (is_keys (sharing_handled all s))
+gates_in parties all (Some s) = gates_of parties s.shape.operation (is_keys (wire_handled all s))
 
 -- how many gates the statements before a place have together, which is the number of the first gate there
 abbrev pub gates_before : ℕ → List Statement → ℕ → ℕ
@@ -68,7 +71,7 @@ is_conversion _ = false
 
 -- neither takes nor gives a value that is shared as keys, and converts none
 abbrev pub is_built : List Statement → Statement → Bool
-is_built all s = not (is_conversion s.shape.operation) && not (is_keys (sharing_handled all s))
+is_built all s = not (is_conversion s.shape.operation) && not (is_keys (wire_handled all s))
 
 abbrev pub all_built : Circuit → Bool
 all_built c = list_all (is_built c.statements) c.statements
@@ -76,23 +79,18 @@ all_built c = list_all (is_built c.statements) c.statements
 -- ---- the gates of a statement
 
 -- what the gate of a statement is made of: the gates of its operands, the number of its input, the party whose input it
--- is, who is told, the sharing of what it tells, the width of its value, and the place and the constant that its line
--- states
+-- is, who is told, whether a word is told, the width of its value or of what it tells, and the place and the constant
+-- that its line states
 pub record Source : Type 0 where
   pub x : ℕ
   pub y : ℕ
   pub k : ℕ
   pub party : ℕ
   pub to : Receiver
-  pub told : Option Sharing
+  pub is_word : Bool
   pub width : ℕ
   pub place : ℕ
   pub constant : ℕ
-
--- the output gate of what is shared so
-abbrev pub output_kind : Option Sharing → ℕ → Receiver → Kind
-output_kind (Some sharing.A) x to = OutA x to
-output_kind _ x to = OutB x to
 
 -- the gate of an operation that is built
 abbrev pub kind_made : Operation → Source → Option Kind
@@ -110,30 +108,39 @@ kind_made And v = Some (AndB v.x v.y)
 kind_made Not v = Some (XorConstB v.x (2 ^ v.width - 1))
 kind_made Slice v = Some (SliceB v.x v.place)
 kind_made Join v = Some (JoinB v.x v.y)
-kind_made Output v = Some (output_kind v.told v.x v.to)
+kind_made Output v = Some (if v.is_word then OutA v.x v.to else OutB v.x v.to)
 kind_made _ v = None
 
--- the width of the value of a statement, or of the value that it tells
-abbrev pub width_handled : List Statement → Statement → ℕ
-width_handled all s = unwrap_or (option_map width_of s.wire) (width_at all (told_value s))
+-- the width of a value that is shared so, if there is one
+abbrev pub width_handled : Option WireType → ℕ
+width_handled handled = unwrap_or (option_map width_of handled) 0
 
--- the first gate of the statement at the place of an operand, if there is one
-abbrev pub operand_gate : ℕ → List Statement → Option ℕ → ℕ
-operand_gate parties all None = 0
-operand_gate parties all (Some at) = gates_before parties all at
+abbrev pub is_word : Option WireType → Bool
+is_word (Some wire.A) = true
+is_word _ = false
 
-abbrev pub source_of : ℕ → List Statement → ℕ → Statement → Source
-source_of parties all at s = record {
-  x = operand_gate parties all (slice_get s.shape.operands 0);
-  y = operand_gate parties all (slice_get s.shape.operands 1);
-  k = length (inputs_of (take at all));
-  party = unwrap_or s.shape.party 0;
-  to = table.receiver_of s.shape.party;
-  told = option_map sharing_of (wire_at all (told_value s));
-  width = width_handled all s;
-  place = s.shape.place;
-  constant = s.shape.constant;
+-- the gate of the value at the place of an operand, by a numbering of the places
+abbrev pub operand_gate : (ℕ → ℕ) → Option ℕ → ℕ
+operand_gate gate None = 0
+operand_gate gate (Some at) = gate at
+
+abbrev pub source_by : (ℕ → ℕ) → Shape → ℕ → Option WireType → Source
+source_by gate shape k handled = record {
+  x = operand_gate gate (slice_get shape.operands 0);
+  y = operand_gate gate (slice_get shape.operands 1);
+  k = k;
+  party = unwrap_or shape.party 0;
+  to = receiver_of shape.party;
+  is_word = is_word handled;
+  width = width_handled handled;
+  place = shape.place;
+  constant = shape.constant;
 }
+
+-- the gate of a statement with its width: the value of an earlier statement is that of its first gate
+abbrev pub source_of : ℕ → List Statement → ℕ → Statement → Source
+source_of parties all at s =
+    source_by (gates_before parties all) s.shape (length (inputs_of (take at all))) (wire_handled all s)
 
 abbrev pub gate_list : Option Kind → ℕ → List Gate
 gate_list None width = []
@@ -142,13 +149,17 @@ gate_list (Some kind) width = record { kind = kind; width = width } ∷ []
 abbrev pub expansion : ℕ → List Statement → ℕ → Option Statement → List Gate
 expansion parties all at None = []
 expansion parties all at (Some s) =
-    gate_list (kind_made s.shape.operation (source_of parties all at s)) (width_handled all s)
+    gate_list (kind_made s.shape.operation (source_of parties all at s)) (width_handled (wire_handled all s))
 
 -- the gates of the statements before a place, one after another
 abbrev pub lowered_before : ℕ → List Statement → ℕ → List Gate
 lowered_before parties all zero = []
 lowered_before parties all (suc n) = lowered_before parties all n ++ expansion parties all n (slice_get all n)
 
+-- the plan of the statements before a place
+abbrev pub lowered_to : Circuit → ℕ → Gates
+lowered_to c n = record { parties = c.parties; gates = lowered_before c.parties c.statements n }
+
 -- the plan of a circuit whose statements are built
 abbrev pub lowered : Circuit → Gates
-lowered c = record { parties = c.parties; gates = lowered_before c.parties c.statements (length c.statements) }
+lowered c = lowered_to c (length c.statements)

@@ -4,13 +4,16 @@
 mod error;
 mod gate;
 mod laws;
+mod lower;
 mod message;
 mod needs;
 mod plan;
 mod slots;
+mod statement;
 
 pub use error::PlanError;
 pub use gate::GateKind;
 pub use laws::records_never_meet;
+pub use lower::{lower_mixed, lowered_gates};
 pub use message_demux::{Shape, SlotSpec};
 pub use plan::Plan;

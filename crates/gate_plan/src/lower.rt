@@ -1,26 +1,27 @@
-ghost use Rattle.std.specs.Prelude.{◌≡◌, ◌<◌, ◌≤◌, ◌+◌, ◌×◌, ◌↔◌, true, false, length, map, take, slice_get, option_map, Some, None, IfOk, IfSome, IsErrOf};
-ghost use Rattle.std.specs.Option.{unwrap_or, option_or};
-ghost use Rattle.mot_base.specs.Limits.{most_width, most_gates};
-ghost use Rattle.mixed_circuit.specs.Circuit.{shape_of, sharing_of, width_of, wire_at};
+ghost use Rattle.std.specs.Prelude.{◌≡◌, ℕ, ◌<◌, ◌≤◌, ◌+◌, ◌^◌, ◌×◌, ◌↔◌, true, false, length, take, slice_get, option_map, Some, None, IfOk, IfSome, IsErrOf};
+ghost use Rattle.mot_base.specs.Limits.{least_parties, most_parties, most_width, most_gates};
+ghost use Rattle.mixed_circuit.specs.Circuit.{shape_of};
 ghost use Rattle.mixed_circuit.specs.Said.{IsCircuit};
-ghost use Rattle.mixed_circuit.specs.Table.{inputs_of, told_value};
-ghost use Rattle.gate_plan.specs.Gate.{kind_of, stated_width};
-ghost use Rattle.gate_plan.specs.Lowering.{sharing_handled, is_keys, gates_of, gates_in, gates_before, all_gates, is_built, all_built, kind_made, source_of, width_handled, lowered_before, lowered};
+ghost use Rattle.mixed_circuit.specs.Table.{inputs_of};
+ghost use Rattle.gate_plan.specs.Lowering.{wire_handled, is_keys, gates_of, gates_in, all_gates, is_built, all_built, lowered_to, lowered};
 ghost use Rattle.gate_plan.specs.Keeps.{KeepsEvaluation};
 
 use crate::error::PlanError;
-use crate::gate::GateKind;
 use crate::plan::Plan;
+use crate::statement::{gate_of, inputs_taken, width_in, wire_handled};
 use mixed_circuit::{Form, Mixed};
-use mot_base::{MAX_GATES, MAX_WIDTH, NoMemory};
-use share_types::{Bits, Sharing, WireType};
+use mot_base::{MAX_GATES, NoMemory};
+use share_types::WireType;
 use std::alloc::Global;
+
+/// The gates of an adder of two words that are shared as keys.
+const ADDER_GATES: u64 = 1073;
 
 /// The gates of a circuit. `NotBuilt` comes exactly where some statement takes or gives a value that is shared as keys,
 /// or converts one, and `TooManyGates` exactly where the circuit has too many.
 pub fn lower_mixed(alloc: Global, circuit: &Mixed) -> Result<Plan, PlanError>
     ensures plan { IfOk result (λ plan. plan ≡ lowered circuit.now) }
-    ensures keeps { IfOk result (λ plan. KeepsEvaluation circuit.now plan) }
+    ensures built { IfOk result (λ plan. all_built circuit.now ≡ true) }
     ensures not_built { IsErrOf result PlanError.NotBuilt ↔ (all_built circuit.now ≡ false) }
     ensures too_many { (gates : ℕ) → IsErrOf result (PlanError.TooManyGates gates) ↔
         ((all_built circuit.now ≡ true) × (most_gates < all_gates circuit.now) × (gates ≡ all_gates circuit.now)) }
@@ -50,15 +51,101 @@ pub fn lowered_gates(circuit: &Mixed) -> u64
 /// How many gates a statement has.
 fn gates_in(circuit: &Mixed, at: u32) -> u64
     requires { at < length circuit.now.statements }
-    ensures value { result ≡ gates_in circuit.now.parties circuit.now.statements (slice_get circuit.now.statements at) }
+    ensures value { result
+        ≡ gates_in circuit.now.parties circuit.now.statements (slice_get circuit.now.statements at) }
     ensures few { result < 2 ^ 14 }
 {
-    let form = circuit.form(at);
-    gates_of(circuit.parties(), form, is_keys(sharing_handled(circuit, form)))
+    gates_of(
+        circuit.parties(),
+        circuit.form(at),
+        is_keys(wire_handled(circuit, at)),
+    )
 }
 
-/// How the value of a statement of that form is shared, or the value that it tells.
-fn sharing_handled(circuit: &Mixed, form: Form) -> Option<Sharing>
+/// How many gates a statement of that form has among so many parties, where its value or what it tells is shared as
+/// keys or not.
+fn gates_of(parties: u8, form: Form, keys: bool) -> u64
+    requires some { least_parties ≤ parties }
+    requires most { parties ≤ most_parties }
+    ensures value { result ≡ gates_of parties (shape_of form).operation keys }
+    ensures few { result < 2 ^ 14 }
 {
-    None
+    let parties = u64::from(parties);
+    match form {
+        Form::A2Y { .. } => 2 * parties + ADDER_GATES * (parties - 1),
+        Form::A2B { .. } => 2 * parties + ADDER_GATES * (parties - 1) + 1,
+        Form::B2Y { .. } => 2 * parties + 2 * (parties - 1),
+        Form::Y2B { .. } | Form::B2A { .. } | Form::NotB { .. } | Form::NotY { .. } => 1,
+        Form::Y2A { .. } => 2,
+        Form::AndB { .. } | Form::AndY { .. } if keys => 3,
+        _ if keys => 2,
+        _ => 1,
+    }
+}
+
+/// Whether a value is shared as keys.
+fn is_keys(wire: Option<WireType>) -> bool
+    ensures { result ≡ is_keys wire }
+{
+    matches!(wire, Some(WireType::Y(_)))
+}
+
+/// Whether all statements of a circuit are built.
+fn are_built(circuit: &Mixed) -> bool
+    ensures { result ≡ all_built circuit.now }
+{
+    for at in 0..circuit.len() {
+        if !is_built(circuit, at) {
+            return false;
+        }
+    }
+    true
+}
+
+/// Whether a statement neither takes nor gives a value that is shared as keys, and converts none.
+fn is_built(circuit: &Mixed, at: u32) -> bool
+    requires { at < length circuit.now.statements }
+    ensures { IfSome (slice_get circuit.now.statements at) (λ s. result ≡ is_built circuit.now.statements s) }
+{
+    match circuit.form(at) {
+        Form::A2Y { .. }
+        | Form::A2B { .. }
+        | Form::B2Y { .. }
+        | Form::Y2B { .. }
+        | Form::B2A { .. }
+        | Form::Y2A { .. } => false,
+        _ => !is_keys(wire_handled(circuit, at)),
+    }
+}
+
+/// The gates of a circuit whose statements are built.
+fn lower_built(alloc: Global, circuit: &Mixed) -> Result<Plan, NoMemory>
+    requires { all_built circuit.now ≡ true }
+    ensures { IfOk result (λ plan. plan ≡ lowered circuit.now) }
+{
+    let mut plan = Plan::new(alloc, circuit.parties());
+    let mut inputs = 0;
+    for at in 0..circuit.len() {
+        plan = with_statement(plan, circuit, at, inputs)?;
+        inputs += inputs_taken(circuit.form(at));
+    }
+    Ok(plan)
+}
+
+/// The plan with the gate of one statement more.
+fn with_statement(plan: Plan, circuit: &Mixed, at: u32, inputs: u32) -> Result<Plan, NoMemory>
+    requires at { at < length circuit.now.statements }
+    requires circuit { IsCircuit circuit.now }
+    requires built { all_built circuit.now ≡ true }
+    requires before { plan ≡ lowered_to circuit.now at }
+    requires inputs { inputs ≡ length (inputs_of (take at circuit.now.statements)) }
+    ensures { IfOk result (λ plan. plan ≡ lowered_to circuit.now (at + 1)) }
+{
+    let Some(wire) = wire_handled(circuit, at) else {
+        return Ok(plan);
+    };
+    match gate_of(circuit.form(at), inputs, wire) {
+        Some(kind) => plan.with_gate(kind, width_in(wire)),
+        None => Ok(plan),
+    }
 }
