@@ -37,10 +37,12 @@ name_plain [] h = cc
 name_plain (b ∷ bs) h =
     let parts = both_true _ _ h in
     let front = both_true _ _ parts.0 in
-    both (is_plain b) (list_all is_plain bs) (first_plain b front.0) (implied_all is_plain (λ c. is_letter c || is_digit c 10) more_plain bs front.1)
+    both (is_plain b) (list_all is_plain bs) (first_plain b front.0)
+    (implied_all is_plain (λ c. is_letter c || is_digit c 10) more_plain bs front.1)
 
 -- a name that is stated, as the word of a statement of that name
-pub some_named : (o : Option Text) → IsSomeName o → (is_name (unwrap_or o []) ≡ true) × (Some (unwrap_or o []) ≡ o)
+pub some_named : (o : Option Text) → IsSomeName o →
+    (is_name (unwrap_or o []) ≡ true) × (Some (unwrap_or o []) ≡ o)
 some_named None h = absurd h
 some_named (Some name) h = (h, refl)
 
@@ -55,7 +57,8 @@ digits_plain (c ∷ cs) h = both (is_plain c) (list_all is_plain cs) (digit_plai
 
 digits_test : (ds : Text) → AllDigits 10 ds → list_all (λ b. is_digit b 10) ds ≡ true
 digits_test [] h = refl
-digits_test (c ∷ cs) h = both (is_digit c 10) (list_all (λ b. is_digit b 10) cs) (lt-ltb _ _ h.0) (digits_test cs h.1)
+digits_test (c ∷ cs) h =
+    both (is_digit c 10) (list_all (λ b. is_digit b 10) cs) (lt-ltb _ _ h.0) (digits_test cs h.1)
 
 not_empty : (ds : Text) → 0 < length ds → not (is_empty ds) ≡ true
 not_empty [] h = absurd (omega arith)
@@ -64,7 +67,8 @@ not_empty (c ∷ cs) h = refl
 pub decimal_plain : (n : ℕ) → n < 2 ^ 64 → is_plain_word (decimal n) ≡ true
 decimal_plain n h =
     let numeral = (decimal_is_IsNumeral n h).0 in
-    both (not (is_empty (decimal n))) (list_all is_plain (decimal n)) (not_empty (decimal n) numeral.0) (digits_plain (decimal n) numeral.1)
+    both (not (is_empty (decimal n))) (list_all is_plain (decimal n)) (not_empty (decimal n) numeral.0)
+    (digits_plain (decimal n) numeral.1)
 
 -- no digit is an `x`
 second_no_x : (a b : ℕ) → digit_value b < 10 → (a == 48 && b == 120) ≡ false
@@ -78,26 +82,33 @@ not_hexadecimal (c ∷ d ∷ ds) h = second_no_x c d h.1.0
 pub decimal_read : (n : ℕ) → n < 2 ^ 64 → number_of (decimal n) ≡ Some n
 decimal_read n h =
     let numeral = decimal_is_IsNumeral n h in
-    let digits : are_digits 10 (decimal n) ≡ true = both (not (is_empty (decimal n))) (list_all (λ b. is_digit b 10) (decimal n)) (not_empty (decimal n) numeral.0.0) (digits_test (decimal n) numeral.0.1) in
-    let fits : nat_lt (digits_value 10 (decimal n)) (2 ^ 64) ≡ true = ap (λ (m : ℕ). nat_lt m (2 ^ 64)) numeral.1 ∙ lt-ltb n (2 ^ 64) h in
-    ap (λ (b : Bool). cond b (number_in 16 (drop 2 (decimal n))) (number_in 10 (decimal n))) (not_hexadecimal (decimal n) numeral.0.1)
+    let digits : are_digits 10 (decimal n) ≡ true =
+    both (not (is_empty (decimal n))) (list_all (λ b. is_digit b 10) (decimal n))
+    (not_empty (decimal n) numeral.0.0) (digits_test (decimal n) numeral.0.1) in
+    let fits : nat_lt (digits_value 10 (decimal n)) (2 ^ 64) ≡ true =
+    ap (λ (m : ℕ). nat_lt m (2 ^ 64)) numeral.1 ∙ lt-ltb n (2 ^ 64) h in
+    ap (λ (b : Bool). cond b (number_in 16 (drop 2 (decimal n))) (number_in 10 (decimal n)))
+    (not_hexadecimal (decimal n) numeral.0.1)
     ∙ ap (λ (b : Bool). cond b (Some (digits_value 10 (decimal n))) None) (both _ _ digits fits)
     ∙ ap Some numeral.1
 
-pub decimal_within : (least most n : ℕ) → least ≤ n → n ≤ most → n < 2 ^ 64 → number_within least most (decimal n) ≡ Some n
+pub decimal_within : (least most n : ℕ) → least ≤ n → n ≤ most → n < 2 ^ 64 →
+    number_within least most (decimal n) ≡ Some n
 decimal_within least most n low high h =
     ap (option_and_then (λ (m : ℕ). cond (nat_le least m && nat_le m most) (Some m) None)) (decimal_read n h)
     ∙ ap (λ (b : Bool). cond b (Some n) None) (both _ _ (le-leb least n low) (le-leb n most high))
 
 digits_not_all : (ds : Text) → AllDigits 10 ds → ds ≡ codes "all" → ⊥
-digits_not_all ds h e = let P : Text → Type 0 = AllDigits 10 in let first = (subst P e h).0 in omega (arith, first)
+digits_not_all ds h e = let P : Text → Type 0 = AllDigits 10 in let first = (subst P e h).0 in
+    omega (arith, first)
 
 not_equal : (x y : Text) (b : Bool) → bytes_eq x y ≡ b → (x ≡ y → ⊥) → b ≡ false
 not_equal x y true e h = absurd (h ((bytes_eq-Decides x y).0 e))
 not_equal x y false e h = refl
 
 decimal_not_all : (n : ℕ) → n < 2 ^ 64 → bytes_eq (decimal n) (codes "all") ≡ false
-decimal_not_all n h = not_equal (decimal n) (codes "all") _ refl (digits_not_all (decimal n) (decimal_is_IsNumeral n h).0.1)
+decimal_not_all n h =
+    not_equal (decimal n) (codes "all") _ refl (digits_not_all (decimal n) (decimal_is_IsNumeral n h).0.1)
 
 -- ---- letters and keywords
 
@@ -111,7 +122,8 @@ letter_read (Some B) = refl
 letter_read (Some Y) = refl
 letter_read None = refl
 
-pub letter_plain : (operation : Operation) (o : Option Sharing) → is_letter_of operation o ≡ true → is_plain_word (letter_word o) ≡ true
+pub letter_plain : (operation : Operation) (o : Option Sharing) → is_letter_of operation o ≡ true →
+    is_plain_word (letter_word o) ≡ true
 letter_plain operation (Some A) h = refl
 letter_plain operation (Some B) h = refl
 letter_plain operation (Some Y) h = refl
@@ -126,34 +138,47 @@ pub owner_plain : (o : Option ℕ) → IsSmall o → is_plain_word (decimal (unw
 owner_plain None h = decimal_plain 0 (omega arith)
 owner_plain (Some n) h = decimal_plain n h
 
-pub owner_stated : (q : Parts) (o : Option ℕ) → IsSome o → IsSmall o → with_word q slot.Owner (decimal (unwrap_or o 0)) ≡ Some (record q { party = o })
+pub owner_stated : (q : Parts) (o : Option ℕ) → IsSome o → IsSmall o →
+    with_word q slot.Owner (decimal (unwrap_or o 0)) ≡ Some (record q { party = o })
 unfolding with_word
 owner_stated q None some h = cc
-owner_stated q (Some n) some h = ap (option_map (λ (m : ℕ). let parts : Parts = record q { party = Some m } in parts)) (decimal_read n h)
+owner_stated q (Some n) some h =
+    ap (option_map (λ (m : ℕ). let parts : Parts = record q { party = Some m } in parts)) (decimal_read n h)
 
 pub told_plain : (o : Option ℕ) → IsSmall o → is_plain_word (told_word o) ≡ true
 told_plain None h = refl
 told_plain (Some n) h = decimal_plain n h
 
-pub told_stated : (q : Parts) (o : Option ℕ) → IsSmall o → (o ≡ None → q.party ≡ None) → with_word q slot.Told (told_word o) ≡ Some (record q { party = o })
+pub told_stated : (q : Parts) (o : Option ℕ) → IsSmall o → (o ≡ None → q.party ≡ None) →
+    with_word q slot.Told (told_word o) ≡ Some (record q { party = o })
 unfolding with_word
-told_stated q None h nobody = ap (λ (o : Option ℕ). let parts : Parts = record q { party = o } in Some parts) (nobody refl)
+told_stated q None h nobody = ap (λ (o : Option ℕ). let parts : Parts = record q { party = o } in Some parts)
+    (nobody refl)
 told_stated q (Some n) h nobody =
     let f = option_map (λ (m : ℕ). let parts : Parts = record q { party = Some m } in parts) in
-    ap (λ (b : Bool). cond b (Some q) (f (number_of (decimal n)))) (decimal_not_all n h) ∙ ap f (decimal_read n h)
+    ap (λ (b : Bool). cond b (Some q) (f (number_of (decimal n)))) (decimal_not_all n h)
+    ∙ ap f (decimal_read n h)
 
-pub width_stated : (q : Parts) (n : ℕ) → 1 ≤ n → n ≤ 64 → with_word q slot.Width (decimal n) ≡ Some (record q { width = n })
+pub width_stated : (q : Parts) (n : ℕ) → 1 ≤ n → n ≤ 64 →
+    with_word q slot.Width (decimal n) ≡ Some (record q { width = n })
 unfolding with_word
-width_stated q n low high = ap (option_map (λ (m : ℕ). let parts : Parts = record q { width = m } in parts)) (decimal_within 1 64 n low high (omega arith))
+width_stated q n low high = ap (option_map (λ (m : ℕ). let parts : Parts = record q { width = m } in parts))
+    (decimal_within 1 64 n low high (omega arith))
 
-pub place_stated : (q : Parts) (n : ℕ) → n ≤ 63 → with_word q slot.Place (decimal n) ≡ Some (record q { place = n })
+pub place_stated : (q : Parts) (n : ℕ) → n ≤ 63 →
+    with_word q slot.Place (decimal n) ≡ Some (record q { place = n })
 unfolding with_word
-place_stated q n high = ap (option_map (λ (m : ℕ). let parts : Parts = record q { place = m } in parts)) (decimal_within 0 63 n (omega arith) high (omega arith))
+place_stated q n high = ap (option_map (λ (m : ℕ). let parts : Parts = record q { place = m } in parts))
+    (decimal_within 0 63 n (omega arith) high (omega arith))
 
-pub constant_stated : (q : Parts) (n : ℕ) → n < 2 ^ 64 → with_word q slot.Constant (decimal n) ≡ Some (record q { constant = n })
+pub constant_stated : (q : Parts) (n : ℕ) → n < 2 ^ 64 →
+    with_word q slot.Constant (decimal n) ≡ Some (record q { constant = n })
 unfolding with_word
-constant_stated q n h = ap (option_map (λ (m : ℕ). let parts : Parts = record q { constant = m } in parts)) (decimal_read n h)
+constant_stated q n h = ap (option_map (λ (m : ℕ). let parts : Parts = record q { constant = m } in parts))
+    (decimal_read n h)
 
-pub letter_stated : (q : Parts) (o : Option Sharing) → with_word q slot.Letter (letter_word o) ≡ Some (record q { letter = o })
+pub letter_stated : (q : Parts) (o : Option Sharing) →
+    with_word q slot.Letter (letter_word o) ≡ Some (record q { letter = o })
 unfolding with_word
-letter_stated q o = ap (λ (l : Option Sharing). let parts : Parts = record q { letter = l } in Some parts) (letter_read o)
+letter_stated q o = ap (λ (l : Option Sharing). let parts : Parts = record q { letter = l } in Some parts)
+    (letter_read o)
