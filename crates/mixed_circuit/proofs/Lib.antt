@@ -14,3 +14,8 @@ pub mod TableLemmas
 pub mod WidthLemmas
 pub mod EvalLemmas
 pub mod WriteLemmas
+pub mod JoinedLemmas
+pub mod SlotLemmas
+pub mod AgainLemmas
+pub mod SaidAgainLemmas
+pub mod ReadsBackLemmas

@@ -135,7 +135,7 @@ new_is : (ss : List Statement) (o : Option Text) → IfSome o (λ name. place_of
 new_is ss None h = refl
 new_is ss (Some name) h = ap (λ (found : Option ℕ). is_none found) h
 
-parts_again : (words : List Text) (q : Parts) → operation_of words ≡ Some q.operation → with_words (no_parts q.operation) (slots_of q.operation) words ≡ Some q → nat_lt q.constant (2 ^ q.width) ≡ true → parts_of words ≡ Ok q
+pub parts_again : (words : List Text) (q : Parts) → operation_of words ≡ Some q.operation → with_words (no_parts q.operation) (slots_of q.operation) words ≡ Some q → nat_lt q.constant (2 ^ q.width) ≡ true → parts_of words ≡ Ok q
 unfolding parts_of
 parts_again words q found stated fits = rw (found, stated, fits) refl
 

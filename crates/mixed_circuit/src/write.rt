@@ -5,6 +5,7 @@ ghost use Rattle.std.specs.Fmt.{decimal};
 ghost use Rattle.mixed_circuit.specs.Rows.{row_shape};
 ghost use Rattle.mixed_circuit.specs.Written.{letter_word, told_word, operand_word, slot_word, slot_words, places_behind, statement_words, line_of, headers, canonical};
 ghost use Rattle.mixed_circuit.specs.Said.{AreEarlier};
+ghost use Rattle.mixed_circuit.specs.Grammar.{Reads};
 
 use crate::circuit::Mixed;
 use crate::language::Slot;
@@ -14,9 +15,10 @@ use share_types::Sharing;
 use std::alloc::Global;
 
 /// The canonical text of a circuit: single spaces, decimal numbers, no blank line, no comment, and a line end behind
-/// every line.
+/// every line. It reads as that circuit again. It may be longer than the text that `read_mixed` takes.
 pub fn write_mixed(alloc: Global, circuit: &Mixed) -> Result<Vec<u8>, NoMemory>
-    ensures { IfOk result (λ text. text.items ≡ canonical circuit.now) }
+    ensures written { IfOk result (λ text. text.items ≡ canonical circuit.now) }
+    ensures reads_back { IfOk result (λ text. Reads text.items circuit.now) }
 {
     let mut out = Vec::new(alloc);
     push_headers(alloc, &mut out, circuit.parties())?;
