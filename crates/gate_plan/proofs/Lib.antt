@@ -2,3 +2,9 @@ pub mod NeedsLemmas
 pub mod PlanLemmas
 pub mod MessageLemmas
 pub mod SlotLemmas
+pub mod RowLemmas
+pub mod HandledLemmas
+pub mod ValidLemmas
+pub mod GatesLemmas
+pub mod StepLemmas
+pub mod BuiltLemmas

@@ -14,13 +14,14 @@ use Rattle.gate_plan.specs.Plan.{Gates}
 
 -- ---- how many gates the statements of a circuit have
 
--- how the value of a statement is shared, or the value that it tells
-abbrev pub wire_by : Operation → Option WireType → Option WireType → Option WireType
-wire_by Output told own = told
-wire_by _ told own = own
+-- what is of the value that an output tells, and for all else of the statement's own value
+abbrev pub handled_by : {X : Type 0} → Operation → X → X → X
+handled_by Output told own = told
+handled_by _ told own = own
 
+-- how the value of a statement is shared, or the value that it tells
 abbrev pub wire_handled : List Statement → Statement → Option WireType
-wire_handled all s = wire_by s.shape.operation (wire_at all (told_value s)) s.wire
+wire_handled all s = handled_by s.shape.operation (wire_at all (told_value s)) s.wire
 
 abbrev pub is_keys : Option WireType → Bool
 is_keys (Some (wire.Y width)) = true

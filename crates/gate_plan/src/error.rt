@@ -1,6 +1,6 @@
 ghost use Rattle.std.specs.Prelude.{◌≡◌};
 
-use std::alloc::AllocError;
+use mot_base::NoMemory;
 use thiserror::Error;
 
 /// Why a circuit is not lowered.
@@ -16,12 +16,12 @@ pub enum PlanError {
     NoMemory,
 }
 
-impl From<AllocError> for PlanError {
+impl From<NoMemory> for PlanError {
     ghost from_gives = { λ _ e. e ≡ NoMemory };
 
     ghost use Rattle.gate_plan.specs.declared.error.PlanError.TheVariants.{NoMemory};
 
-    fn from(_error: AllocError) -> PlanError {
+    fn from(_error: NoMemory) -> PlanError {
         PlanError::NoMemory
     }
 }

@@ -1,4 +1,4 @@
-ghost use Rattle.std.specs.Prelude.{◌≡◌, ℕ, ◌<◌, ◌≤◌, ◌+◌, ◌^◌, ◌×◌, ◌↔◌, true, false, length, take, slice_get, option_map, Some, None, IfOk, IfSome, IsErrOf};
+ghost use Rattle.std.specs.Prelude.{◌≡◌, ℕ, ◌<◌, ◌≤◌, ◌+◌, ◌^◌, ◌↔◌, true, false, length, take, slice_get, option_map, Some, None, IfOk, IfSome, IsErrOf};
 ghost use Rattle.mot_base.specs.Limits.{least_parties, most_parties, most_width, most_gates};
 ghost use Rattle.mixed_circuit.specs.Circuit.{shape_of};
 ghost use Rattle.mixed_circuit.specs.Said.{IsCircuit};

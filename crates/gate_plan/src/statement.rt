@@ -1,13 +1,14 @@
 //! The gate of a statement.
 
-ghost use Rattle.std.specs.Prelude.{◌≡◌, ◌<◌, ◌≤◌, ◌-◌, ◌^◌, length, slice_get, option_map, Some, None, IfSome, if◌then◌else◌};
+ghost use Rattle.std.specs.Prelude.{◌≡◌, ◌<◌, ◌≤◌, ◌-◌, ◌^◌, length, slice_get, slice_index, option_map, Some, None, IfSome, if◌then◌else◌};
 ghost use Rattle.mot_base.specs.Limits.{most_width};
 ghost use Rattle.mixed_circuit.specs.declared.language.Operation.TheVariants.{ConstBits};
 ghost use Rattle.mixed_circuit.specs.Circuit.{shape_of, width_of};
+ghost use Rattle.mixed_circuit.specs.Said.{AreEarlier};
 ghost use Rattle.mixed_circuit.specs.Eval.{inputs_taken};
 ghost use Rattle.mixed_circuit.specs.Wide.{IsWide};
 ghost use Rattle.gate_plan.specs.Gate.{OutA, OutB, kind_of, stated_width};
-ghost use Rattle.gate_plan.specs.Lowering.{wire_handled, is_word, kind_made, source_by};
+ghost use Rattle.gate_plan.specs.Lowering.{handled_by, wire_handled, is_word, kind_made, source_by};
 
 use crate::gate::GateKind;
 use circuit_values::Receiver;
@@ -21,9 +22,18 @@ pub fn wire_handled(circuit: &Mixed, at: u32) -> Option<WireType>
     ensures value { IfSome (slice_get circuit.now.statements at) (λ s. result ≡ wire_handled circuit.now.statements s) }
     ensures wide { IfSome result (λ wire. IsWide wire) }
 {
-    match circuit.form(at) {
-        Form::Output { x, .. } => circuit.wire(x),
-        _ => circuit.wire(at),
+    circuit.wire(place_handled(circuit.form(at), at))
+}
+
+/// The place of the value that an output tells, and the statement's own place for all else.
+fn place_handled(form: Form, at: u32) -> u32
+    requires { AreEarlier at (shape_of form).operands }
+    ensures place { result ≡ handled_by (shape_of form).operation (slice_index (shape_of form).operands 0) at }
+    ensures earlier { result ≤ at }
+{
+    match form {
+        Form::Output { x, .. } => x,
+        _ => at,
     }
 }
 
@@ -97,7 +107,7 @@ fn ones(width: u8) -> Bits
 
 /// The output gate of a value that is shared so.
 fn output(x: u32, to: Receiver, wire: WireType) -> GateKind
-    ensures { kind_of result ≡ (if is_word (Some wire) then OutA x to else OutB x to) }
+    ensures kind { kind_of result ≡ (if is_word (Some wire) then OutA x to else OutB x to) }
     ensures stated { stated_width result ≡ None }
 {
     match wire {

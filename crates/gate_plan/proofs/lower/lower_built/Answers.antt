@@ -1,0 +1,21 @@
+use Rattle.std.proofs.Common.{◌≡◌, ◌<◌, ◌+◌, length, take, sym, ◌∙◌, ap, arith}
+use Rattle.mixed_circuit.specs.Circuit.{Shape, shape_of}
+use Rattle.mixed_circuit.specs.Table.{inputs_of}
+use Rattle.mixed_circuit.specs.Eval.{inputs_taken}
+use Rattle.mixed_circuit.proofs.EvalLemmas.{some_statement, inputs_next}
+use Rattle.gate_plan.proofs.lower.lower_built.Goals as goal
+
+pub loop-at-preserved : goal.loop-at-preserved
+loop-at-preserved c =
+    let statements = c.args.circuit.now.statements in
+    let at = c.loop-at.at in
+    let before = c.loop-at.invariant in
+    let here = some_statement statements at (shape_of c.form.result) c.form.ensures.value in
+    let taken = inputs_next statements at here.0 here.1 in
+    let one = ap inputs_taken here.2 in
+    let count = c.inputs_taken-inputs.ensures.value in
+    let most = c.inputs_taken-inputs.ensures.most in
+    let known = before.1 in
+    let few = before.2 in
+    let all : c.loop-at.inputs + c.inputs_taken-inputs.result ≡ length (inputs_of (take (at + 1) statements)) = omega arith in
+    (c.in_ok-plan.ensures, all, omega arith)
