@@ -1,32 +1,26 @@
 -- The gates of the statements of a circuit, one after another.
-use Rattle.std.proofs.Common.{ℕ, zero, suc, ◌≡◌, ◌<◌, ◌≤◌, ◌+◌, Bool, true, false, not, ◌&&◌, List, [], ◌∷◌, ◌++◌, length, map, take, Option, Some, None, inl, inr, refl, sym, ◌∙◌, ap, ap₂, subst, arith}
-use Rattle.std.specs.Prelude.{slice_get, slice_index, IfSome, option_map, option_and_then}
+use Rattle.std.proofs.Common.{ℕ, zero, suc, ◌≡◌, ◌<◌, ◌≤◌, Bool, true, false, not, ◌&&◌, List, [], ◌∷◌, ◌++◌, length, take, Option, Some, None, inl, inr, refl, sym, ◌∙◌, ap, arith}
+use Rattle.std.specs.Prelude.{slice_get, option_and_then}
 use Rattle.std.specs.List.{list_all}
-use Rattle.std.specs.Option.{unwrap_or}
 use Rattle.std.proofs.lemmas.Bool.{cases_lt}
 use Rattle.std.proofs.lemmas.List.{length-append}
-use Rattle.std.proofs.lemmas.Option.{slice_get_within}
 use Rattle.share_types.specs.declared.sharing.Sharing.{Sharing}
 use Rattle.share_types.specs.declared.sharing.Sharing.TheVariants as sharing
 use Rattle.share_types.specs.declared.sharing.WireType.{WireType}
-use Rattle.share_types.specs.declared.sharing.WireType.TheVariants as wire
 use Rattle.mixed_circuit.specs.declared.language.Operation.{Operation}
 use Rattle.mixed_circuit.specs.declared.language.Operation.TheVariants.{InputWord, InputBits, ConstWord, ConstBits, Add, Sub, Mul, AddConst, MulConst, Xor, And, Not, Slice, Join, A2Y, A2B, B2Y, Y2B, B2A, Y2A, Output}
-use Rattle.mixed_circuit.specs.declared.operand.Operand.{Operand}
 use Rattle.mixed_circuit.specs.Language.{domain_of, is_in, gives, states, is_name_slot}
-use Rattle.mixed_circuit.specs.Circuit.{Circuit, Statement, Shape, wire_type, wire_at, width_of}
-use Rattle.mixed_circuit.specs.Said.{IsCircuit, IsSaid}
-use Rattle.mixed_circuit.specs.Wide.{IsWide}
-use Rattle.mixed_circuit.specs.Table.{inputs_of, told_value, receiver_of}
-use Rattle.mixed_circuit.proofs.ListLemmas.{same_some, take_next}
-use Rattle.mixed_circuit.proofs.WidthLemmas.{circuit_wide, took}
+use Rattle.mixed_circuit.specs.Circuit.{Circuit, Statement, wire_type, wire_at, width_of}
+use Rattle.mixed_circuit.specs.Said.{IsCircuit}
+use Rattle.mixed_circuit.specs.Table.{told_value}
+use Rattle.mixed_circuit.proofs.ListLemmas.{same_some}
+use Rattle.mixed_circuit.proofs.WidthLemmas.{took}
 use Rattle.gate_plan.specs.Gate as plan
 use Rattle.gate_plan.specs.Gate.{Kind, Gate}
-use Rattle.gate_plan.specs.Plan.{IsGate}
-use Rattle.gate_plan.specs.Lowering.{Source, kind_made, source_by, source_of, handled_by, wire_handled, width_handled, is_keys, is_word, is_conversion, is_built, all_built, gates_of, gates_in, gates_before, gate_list, expansion, lowered_before}
+use Rattle.gate_plan.specs.Lowering.{Source, kind_made, source_of, handled_by, wire_handled, width_handled, is_keys, is_conversion, is_built, all_built, gates_of, gates_in, gates_before, gate_list, expansion, lowered_before}
 use Rattle.gate_plan.proofs.NeedsLemmas.{last, kept}
 use Rattle.gate_plan.proofs.RowLemmas.{IsRow, said_row}
-use Rattle.gate_plan.proofs.ValidLemmas.{Agree, Agrees, Sound, given_of, IsValid, valid, valid_output}
+use Rattle.gate_plan.proofs.ValidLemmas.{Agree, Agrees, given_of}
 
 -- ---- what is built
 
@@ -269,10 +263,11 @@ module _ (c : Circuit) (circuit : IsCircuit c) (built : all_built c ≡ true) wh
       let handled = handled_own at s w there own in
       let wired : s.wire ≡ Some (wire_type (gives s.shape.operation row.sharing) row.width) = row.wire ∙ rw (handled.1) refl in
       let same : wire_type (gives s.shape.operation row.sharing) row.width ≡ w = same_some _ w (sym wired ∙ own) in
-      let kind = gate_kind at s there in
-      (ap width_handled handled.0,
-      made_gives s.shape.operation row.sharing row.width (source_of c.parties all at s) kind.0 row.domain handled.1 (is_plain at s there).direct kind.1
-      ∙ ap given_of same)
+      let kind = gate_kind at s there in (
+        ap width_handled handled.0,
+        made_gives s.shape.operation row.sharing row.width (source_of c.parties all at s) kind.0 row.domain handled.1 (is_plain at s there).direct kind.1
+            ∙ ap given_of same,
+      )
 
   pub flat_some : (o : Option Statement) (w : WireType) → option_and_then (λ s. s.wire) o ≡ Some w → (s : Statement) × (o ≡ Some s) × (s.wire ≡ Some w)
   flat_some None w e = cc

@@ -8,3 +8,4 @@ pub mod ValidLemmas
 pub mod GatesLemmas
 pub mod StepLemmas
 pub mod BuiltLemmas
+pub mod KeepsLemmas

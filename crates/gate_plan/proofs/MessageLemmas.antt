@@ -1,5 +1,5 @@
 -- The messages of gates: which rounds there are, who hears, and how long payloads are.
-use Rattle.std.proofs.Common.{ℕ, zero, suc, ◌≡◌, ◌<◌, ◌≤◌, ◌+◌, ◌*◌, ◌/◌, Bool, true, false, cond, ◌||◌, ◌&&◌, List, [], ◌∷◌, ◌++◌, length, take, filter, Option, Some, None, inl, inr, refl, sym, ◌∙◌, ap, ap₂, subst, arith}
+use Rattle.std.proofs.Common.{ℕ, zero, suc, ◌≡◌, ◌<◌, ◌≤◌, ◌+◌, ◌*◌, Bool, true, false, cond, ◌||◌, List, [], ◌∷◌, length, take, filter, Option, Some, None, inl, inr, refl, sym, ◌∙◌, ap, ap₂, subst, arith}
 use Rattle.std.specs.Prelude.{slice_get, is_some, option_map}
 use Rattle.std.specs.List.{list_any}
 use Rattle.std.specs.Option.{unwrap_or}
@@ -9,14 +9,12 @@ use Rattle.std.proofs.lemmas.List.Elements.{filter-append}
 use Rattle.std.proofs.lemmas.Bool.{cases_lt}
 use Rattle.mot_base.specs.Limits.{most_width, most_payload_bytes}
 use Rattle.share_types.specs.Sums.{each}
-use Rattle.message_demux.specs.declared.slots.Shape.TheVariants.{Words, Vectors}
 use Rattle.message_demux.specs.Slots.{IsShapeOf, vector_bytes}
 use Rattle.mixed_circuit.proofs.ListLemmas.{same_some, take_next}
 use Rattle.gate_plan.specs.declared.message.Message.{Message}
 use Rattle.gate_plan.specs.Gate.{Kind, Gate, InA, ConstA, AddA, SubA, AddConstA, MulConstA, MulA, OutA, InB, ConstB, XorB, XorConstB, SliceB, JoinB, AndB, OutB}
 use Rattle.gate_plan.specs.Plan.{Gates}
-use Rattle.gate_plan.specs.Messages.{words, vectors, is_told, messages_of, messages_at, message, are_two, hears, rounds, heard_rounds, stages, awaits, tells}
-use Rattle.gate_plan.proofs.NeedsLemmas.{last, kept}
+use Rattle.gate_plan.specs.Messages.{words, vectors, messages_of, messages_at, message, are_two, hears, rounds, heard_rounds}
 
 -- ---- all parties, one after another
 

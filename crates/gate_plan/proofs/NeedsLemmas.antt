@@ -1,18 +1,18 @@
 -- What gates need, one gate after another.
-use Rattle.std.proofs.Common.{ℕ, zero, suc, ◌≡◌, ◌<◌, ◌≤◌, ◌+◌, ◌-◌, ◌*◌, ◌^◌, List, [], ◌∷◌, ◌++◌, length, Option, Some, None, inl, inr, refl, sym, ◌∙◌, ap, ap₂, subst, arith}
+use Rattle.std.proofs.Common.{ℕ, zero, suc, ◌≡◌, ◌<◌, ◌≤◌, ◌+◌, ◌-◌, ◌*◌, List, [], ◌∷◌, ◌++◌, length, Option, Some, None, inl, inr, refl, sym, ◌∙◌, ap, ap₂, subst, arith}
 use Rattle.std.specs.Prelude.{slice_get}
 use Rattle.std.proofs.lemmas.List.{length-append}
 use Rattle.std.proofs.lemmas.Bool.{cases_lt}
-use Rattle.mot_base.specs.Limits.{most_width, most_gates}
+use Rattle.mot_base.specs.Limits.{most_width}
 use Rattle.share_types.specs.declared.needs.Needs.{Needs}
 use Rattle.share_types.specs.declared.needs.Kind as stock
 use Rattle.share_types.specs.declared.needs.Kind.TheVariants.{Mult, Bit, Shared, Key}
 use Rattle.share_types.specs.Needs.{count_of}
 use Rattle.share_types.specs.Sums.{each}
-use Rattle.share_types.proofs.Parties.{length-each, each_more}
+use Rattle.share_types.proofs.Parties.{length-each}
 use Rattle.gate_plan.specs.Gate as plan
 use Rattle.gate_plan.specs.Gate.{Gate}
-use Rattle.gate_plan.specs.Plan.{Gates, IsPlan, IsGate}
+use Rattle.gate_plan.specs.Plan.{Gates, IsPlan}
 use Rattle.gate_plan.specs.Needs.{no_needs, sum_of_needs, needs_of, needs_at, offset, offsets_of, RecordsNeverMeet}
 
 -- what stands at the end, and before it

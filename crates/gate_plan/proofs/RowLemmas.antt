@@ -1,6 +1,6 @@
 -- What a line says of a statement, as facts on the statement alone.
-use Rattle.std.proofs.Common.{ℕ, zero, suc, ◌≡◌, ◌<◌, ◌≤◌, ◌^◌, Bool, true, false, ◌&&◌, cond, List, [], ◌∷◌, length, map, Option, Some, None, refl, sym, ◌∙◌, ap, subst, arith}
-use Rattle.std.specs.Prelude.{slice_get, IfSome, option_map, option_and_then, if◌then◌else◌}
+use Rattle.std.proofs.Common.{ℕ, zero, suc, ◌≡◌, ◌<◌, ◌^◌, Bool, true, false, ◌&&◌, cond, List, [], ◌∷◌, length, map, Option, Some, None, refl, sym, ◌∙◌, ap, subst, arith}
+use Rattle.std.specs.Prelude.{slice_get, IfSome, option_map, if◌then◌else◌}
 use Rattle.std.specs.List.{list_all}
 use Rattle.share_types.specs.declared.sharing.Sharing.{Sharing}
 use Rattle.share_types.specs.declared.sharing.WireType.{WireType}
@@ -9,7 +9,7 @@ use Rattle.mixed_circuit.specs.declared.language.Operation.TheVariants.{InputWor
 use Rattle.mixed_circuit.specs.declared.operand.Operand.{Operand}
 use Rattle.mixed_circuit.specs.Language.{domain_of, widths_of, is_in, gives, states, is_name_slot, is_letter_slot, is_width_slot, arity_of}
 use Rattle.mixed_circuit.specs.Circuit.{Circuit, Statement, sharing_of, is_shared, wire_type, wire_at}
-use Rattle.mixed_circuit.specs.Line.{Parts, operand_of, operands_of, sharing_given, width_given, statement_of, is_party}
+use Rattle.mixed_circuit.specs.Line.{Parts, operand_of, operands_of, sharing_given, width_given, is_party}
 use Rattle.mixed_circuit.specs.Said.{IsSaid}
 use Rattle.mixed_circuit.specs.Stated.{AreWhole, IsSomeName}
 use Rattle.mixed_circuit.proofs.ListLemmas.{same_some}

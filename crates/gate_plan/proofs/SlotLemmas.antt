@@ -1,5 +1,5 @@
 -- All messages to a party, in the order of their slots.
-use Rattle.std.proofs.Common.{ℕ, zero, suc, ◌≡◌, ◌<◌, ◌≤◌, ◌+◌, ◌*◌, ◌^◌, Bool, true, false, cond, List, [], ◌∷◌, ◌++◌, map, length, get_or, Option, Some, None, inl, inr, refl, sym, ◌∙◌, ap, ap₂, subst, arith}
+use Rattle.std.proofs.Common.{ℕ, zero, suc, ◌≡◌, ◌<◌, ◌≤◌, ◌*◌, Bool, true, false, cond, List, [], ◌∷◌, ◌++◌, map, length, get_or, Option, Some, None, inl, inr, refl, sym, ◌∙◌, ap, ap₂, subst, arith}
 use Rattle.std.specs.Prelude.{slice_get, option_map, nat_lt}
 use Rattle.std.specs.List.{AllByRecursion}
 use Rattle.std.specs.Option.{unwrap_or}
@@ -9,13 +9,13 @@ use Rattle.std.specs.Ordering.{nat_cmp, ordering_then, eq_by_cmp, is_eq}
 use Rattle.std.specs.Cmp.{nat_cmp_is}
 use Rattle.std.specs.List.Sorted.{IsStrictlySortedBy}
 use Rattle.std.proofs.lemmas.Bool.{cases_lt, ltb-true}
-use Rattle.std.proofs.lemmas.List.{length-append, map-append}
+use Rattle.std.proofs.lemmas.List.{length-append}
 use Rattle.std.proofs.lemmas.Option.{get_or_from_slice_get, slice_get_within}
-use Rattle.mot_base.specs.Limits.{most_parties, most_gates}
+use Rattle.mot_base.specs.Limits.{most_gates}
 use Rattle.message_demux.specs.declared.slots.Slot.{Slot}
 use Rattle.message_demux.specs.declared.slots.SlotSpec.{SlotSpec}
 use Rattle.message_demux.specs.Slots.{slot_cmp, slot_of, slot_at, listed, IsSlotSpec, IsSlotList}
-use Rattle.message_demux.proofs.Places.{slot_same, slot_total, absent}
+use Rattle.message_demux.proofs.Places.{slot_same, absent}
 use Rattle.message_demux.proofs.Keeping.{listed_at}
 use Rattle.mixed_circuit.proofs.ListLemmas.{same_some}
 use Rattle.gate_plan.specs.declared.message.Message.{Message}

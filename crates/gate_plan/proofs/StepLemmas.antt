@@ -1,18 +1,16 @@
 -- The gate of one statement more: it is valid, and it is the one that the code makes.
-use Rattle.std.proofs.Common.{ℕ, zero, suc, ◌≡◌, ◌<◌, ◌≤◌, ◌+◌, ◌^◌, Bool, true, false, List, [], ◌∷◌, ◌++◌, length, map, take, Option, Some, None, refl, sym, ◌∙◌, ap, ap₂, subst, arith}
-use Rattle.std.specs.Prelude.{slice_get, slice_index, IfSome, option_map, option_and_then}
+use Rattle.std.proofs.Common.{ℕ, zero, suc, ◌≡◌, ◌<◌, ◌^◌, true, false, List, [], ◌∷◌, length, take, Option, Some, None, refl, sym, ◌∙◌, ap, ap₂, subst, arith}
+use Rattle.std.specs.Prelude.{slice_get, slice_index, IfSome, option_map}
 use Rattle.std.specs.Option.{unwrap_or}
 use Rattle.std.proofs.lemmas.Option.{slice_get_within, slice_get-map}
 use Rattle.share_types.specs.declared.sharing.Sharing.{Sharing}
 use Rattle.share_types.specs.declared.sharing.Sharing.TheVariants as sharing
 use Rattle.share_types.specs.declared.sharing.WireType.{WireType}
-use Rattle.circuit_values.specs.declared.receiver.Receiver.{Receiver}
 use Rattle.mixed_circuit.specs.declared.language.Operation.{Operation}
-use Rattle.mixed_circuit.specs.declared.language.Operation.TheVariants.{Output, ConstBits}
+use Rattle.mixed_circuit.specs.declared.language.Operation.TheVariants.{ConstBits}
 use Rattle.mixed_circuit.specs.declared.operand.Operand.{Operand}
-use Rattle.mixed_circuit.specs.declared.language.Widths.TheVariants.{Stated}
 use Rattle.mixed_circuit.specs.Language.{gives, states, is_name_slot, widths_of, arity_of, domain_of, is_in}
-use Rattle.mixed_circuit.specs.Line.{Parts, width_given}
+use Rattle.mixed_circuit.specs.Line.{width_given}
 use Rattle.mixed_circuit.specs.Circuit.{Circuit, Statement, Shape, wire_type, wire_at, width_of, party_told}
 use Rattle.mixed_circuit.specs.Said.{IsCircuit}
 use Rattle.mixed_circuit.specs.Wide.{IsWide}
@@ -20,12 +18,12 @@ use Rattle.mixed_circuit.specs.Table.{inputs_of, told_value, receiver_of}
 use Rattle.mixed_circuit.proofs.ListLemmas.{same_some}
 use Rattle.mixed_circuit.proofs.WidthLemmas.{circuit_wide, took}
 use Rattle.gate_plan.specs.declared.gate.GateKind.{GateKind}
-use Rattle.gate_plan.specs.Gate.{Kind, Gate, kind_of}
+use Rattle.gate_plan.specs.Gate.{Kind, kind_of}
 use Rattle.gate_plan.specs.Plan.{IsGate}
-use Rattle.gate_plan.specs.Lowering.{Source, kind_made, source_by, source_of, handled_by, wire_handled, width_handled, is_keys, is_word, all_built, operand_gate, gates_before, lowered_before}
+use Rattle.gate_plan.specs.Lowering.{Source, kind_made, source_by, source_of, wire_handled, width_handled, is_keys, is_word, all_built, operand_gate, gates_before, lowered_before}
 use Rattle.gate_plan.proofs.RowLemmas.{IsRow}
 use Rattle.gate_plan.proofs.ValidLemmas.{Sound, IsValid, valid, valid_output, OneOperand, one_operand}
-use Rattle.gate_plan.proofs.GatesLemmas.{Named, Names, Tells, named, IsPlain, is_plain, row_at, numbers, gate_at, gate_kind, handled_own, own_handled, agree_to, flat_some}
+use Rattle.gate_plan.proofs.GatesLemmas.{Named, Names, Tells, named, is_plain, row_at, numbers, gate_at, gate_kind, handled_own, agree_to, flat_some}
 
 party_some : (parties : ℕ) (o : Option ℕ) → 0 < parties → IfSome o (λ party. party < parties) → unwrap_or o 0 < parties
 party_some parties None h f = h
@@ -40,36 +38,36 @@ module _ (c : Circuit) (circuit : IsCircuit c) (built : all_built c ≡ true) (n
   abbrev all : List Statement
   all = c.statements
 
-  row : IsRow c.parties (take n all) s
+  pub row : IsRow c.parties (take n all) s
   row = row_at c circuit built n s there
 
-  abbrev v : Source
+  abbrev pub v : Source
   v = source_of c.parties all n s
 
   pub within : n < length all
   within = slice_get_within all n s there
 
   -- a value among the first statements is one of all
-  wire_among : (x : ℕ) (w : WireType) → wire_at (take n all) x ≡ Some w → (x < n) × (wire_at all x ≡ Some w)
+  pub wire_among : (x : ℕ) (w : WireType) → wire_at (take n all) x ≡ Some w → (x < n) × (wire_at all x ≡ Some w)
   wire_among x w e =
       let found = flat_some c circuit built (slice_get (take n all) x) w e in
       let place = took all n x found.0 found.1 in
       (place.0, rw place.1 found.2)
 
-  operand_place : (i : ℕ) (o : Operand) → slice_get row.operands i ≡ Some o → slice_get s.shape.operands i ≡ Some o.at
+  pub operand_place : (i : ℕ) (o : Operand) → slice_get row.operands i ≡ Some o → slice_get s.shape.operands i ≡ Some o.at
   operand_place i o e =
       ap (λ xs. slice_get xs i) row.places ∙ (slice_get-map (λ (x : Operand). x.at) row.operands i ∙ ap (option_map (λ (x : Operand). x.at)) e)
 
-  operand_small : (i : ℕ) (o : Operand) → slice_get row.operands i ≡ Some o → o.at < n
+  pub operand_small : (i : ℕ) (o : Operand) → slice_get row.operands i ≡ Some o → o.at < n
   operand_small i o e = (wire_among o.at o.wire (row.found i o e)).0
 
-  numbered : (i : ℕ) (o : Operand) → slice_get row.operands i ≡ Some o → operand_gate (gates_before c.parties all) (slice_get s.shape.operands i) ≡ o.at
+  pub numbered : (i : ℕ) (o : Operand) → slice_get row.operands i ≡ Some o → operand_gate (gates_before c.parties all) (slice_get s.shape.operands i) ≡ o.at
   numbered i o e =
       let small = operand_small i o e in
       let few = within in
       ap (operand_gate (gates_before c.parties all)) (operand_place i o e) ∙ numbers c circuit built o.at (omega arith)
 
-  sound : Sound c.parties (take n all) s.shape.operation row.sharing v row.parts row.operands row.width
+  pub sound : Sound c.parties (take n all) s.shape.operation row.sharing v row.parts row.operands row.width
   sound = record {
     found = row.found;
     shared = row.shared;
@@ -99,15 +97,17 @@ module _ (c : Circuit) (circuit : IsCircuit c) (built : all_built c ≡ true) (n
       let w = wire_type (gives s.shape.operation row.sharing) row.width in
       let own : s.wire ≡ Some w = row.wire ∙ rw e refl in
       let handled = (handled_own c circuit built n s w there own).0 in
-      let wide = circuit_wide c circuit n w (rw there own) in
-      (w, record {
-        handled = handled;
-        wide = wide;
-        unkeyed = unkeyed_by w handled;
-        valid = valid c.parties (take n all) (lowered_before c.parties all n) (agree_to c circuit built n (omega (arith, within)))
-            s.shape.operation row.sharing v row.parts row.operands row.width row.domain sound e wide (unkeyed_by w handled)
-            (ap width_handled handled);
-      })
+      let wide = circuit_wide c circuit n w (rw there own) in (
+        w,
+        record {
+          handled = handled;
+          wide = wide;
+          unkeyed = unkeyed_by w handled;
+          valid = valid c.parties (take n all) (lowered_before c.parties all n) (agree_to c circuit built n (omega (arith, within)))
+              s.shape.operation row.sharing v row.parts row.operands row.width row.domain sound e wide (unkeyed_by w handled)
+              (ap width_handled handled);
+        },
+      )
   by_name (Tells e) = told (one_operand row.operands (row.arity ∙ ap arity_of e))
     where
       told : OneOperand row.operands → (w : WireType) × IsHandled w
@@ -118,16 +118,18 @@ module _ (c : Circuit) (circuit : IsCircuit c) (built : all_built c ≡ true) (n
           let at : told_value s ≡ t.x.at = slice_index_some s.shape.operands 0 t.x.at place in
           let handled : wire_handled all s ≡ Some w = rw e (ap (wire_at all) at ∙ wired.1) in
           let wide = circuit_wide c circuit t.x.at w wired.1 in
-          let P : Operation → Type 0 = λ op. Sound c.parties (take n all) op row.sharing v row.parts row.operands row.width in
-          (w, record {
-            handled = handled;
-            wide = wide;
-            unkeyed = unkeyed_by w handled;
-            valid = subst (λ op. IsValid c.parties (take n all) (lowered_before c.parties all n) (agree_to c circuit built n (omega (arith, within))) (kind_made op v) w) (sym e)
-                (valid_output c.parties (take n all) (lowered_before c.parties all n) (agree_to c circuit built n (omega (arith, within)))
-                row.sharing v row.parts row.operands row.width w (subst P e sound)
-                (λ o f. ap (λ (x : Operand). x.wire) (same_some t.x o (sym t.first ∙ f))) wide (unkeyed_by w handled) (ap is_word handled));
-          })
+          let P : Operation → Type 0 = λ op. Sound c.parties (take n all) op row.sharing v row.parts row.operands row.width in (
+            w,
+            record {
+              handled = handled;
+              wide = wide;
+              unkeyed = unkeyed_by w handled;
+              valid = subst (λ op. IsValid c.parties (take n all) (lowered_before c.parties all n) (agree_to c circuit built n (omega (arith, within))) (kind_made op v) w) (sym e)
+                  (valid_output c.parties (take n all) (lowered_before c.parties all n) (agree_to c circuit built n (omega (arith, within)))
+                  row.sharing v row.parts row.operands row.width w (subst P e sound)
+                  (λ o f. ap (λ (x : Operand). x.wire) (same_some t.x o (sym t.first ∙ f))) wide (unkeyed_by w handled) (ap is_word handled));
+            },
+          )
         where
           slice_index_some : (xs : List ℕ) (i x : ℕ) → slice_get xs i ≡ Some x → slice_index xs i ≡ x
           slice_index_some [] i x h = cc
@@ -143,7 +145,7 @@ module _ (c : Circuit) (circuit : IsCircuit c) (built : all_built c ≡ true) (n
       let h = handled in
       let kind = gate_kind c circuit built n s there in
       let is : IfSome (Some kind.0) (λ (kind : Kind). IsGate c.parties (lowered_before c.parties all n) (record { kind = kind; width = width_of h.0 })) =
-          subst (λ o. IsValid c.parties (take n all) (lowered_before c.parties all n) (agree_to c circuit built n (omega (arith, within))) o h.0) kind.1 h.1.valid in
+      subst (λ o. IsValid c.parties (take n all) (lowered_before c.parties all n) (agree_to c circuit built n (omega (arith, within))) o h.0) kind.1 h.1.valid in
       subst (λ width. IsGate c.parties (lowered_before c.parties all n) (record { kind = kind.0; width = width })) (sym (ap width_handled h.1.handled)) is
 
   -- ---- the gate that the code makes
@@ -187,7 +189,7 @@ module _ (c : Circuit) (circuit : IsCircuit c) (built : all_built c ≡ true) (n
       record { kind = kind_of kind; width = width } ≡ gate_at c circuit built n s there
   code_gate kind found shape k w width same count wired is known wide =
       let first = same_some _ _ (sym (ap (option_map kind_of) known)
-          ∙ (kind_is shape k w (option_map kind_of found) same count wired is ∙ (gate_kind c circuit built n s there).1)) in
+      ∙ (kind_is shape k w (option_map kind_of found) same count wired is ∙ (gate_kind c circuit built n s there).1)) in
       ap₂ (λ (a : Kind) (b : ℕ). record { kind = a; width = b }) first (wide ∙ ap width_handled wired)
 
   -- a constant of bits has the width of its line

@@ -3,7 +3,7 @@ use Rattle.std.specs.Prelude.{ℕ, ◌≡◌, Bool, List, [], ◌∷◌, ◌++�
 use Rattle.circuit_values.specs.declared.receiver.Receiver.{Receiver}
 use Rattle.circuit_values.specs.Table.{Told}
 use Rattle.share_types.specs.Bits.{bits}
-use Rattle.mixed_circuit.specs.Circuit.{Circuit, Statement}
+use Rattle.mixed_circuit.specs.Circuit.{Circuit}
 use Rattle.mixed_circuit.specs.Eval.{IsEvaluated, told_of}
 use Rattle.gate_plan.specs.Gate.{Gate, receiver_of}
 use Rattle.gate_plan.specs.Plan.{Gates}

@@ -2,12 +2,10 @@
 use Rattle.std.specs.Prelude.{ℕ, zero, suc, ◌≡◌, ◌+◌, ◌*◌, Bool, false, ◌&&◌, not, ◌==◌, nat_lt, List, [], ◌∷◌, ◌++◌, length, filter, slice_get, Option, Some, None, option_map, is_some, if◌then◌else◌}
 use Rattle.std.specs.List.{list_any}
 use Rattle.std.specs.Option.{unwrap_or}
-use Rattle.mot_base.specs.declared.Party.{Party}
 use Rattle.share_types.specs.Sums.{each}
 use Rattle.circuit_values.specs.declared.receiver.Receiver.{Receiver}
 use Rattle.circuit_values.specs.Table.{is_receiver}
 use Rattle.message_demux.specs.declared.slots.SlotSpec.{SlotSpec}
-use Rattle.message_demux.specs.declared.slots.Shape.{Shape}
 use Rattle.message_demux.specs.declared.slots.Shape.TheVariants.{Words, Vectors}
 use Rattle.message_demux.specs.Slots.{listed, slot_at, vector_bytes, IsSlotList}
 use Rattle.gate_plan.specs.declared.message.Message.{Message}

@@ -21,7 +21,7 @@ const ADDER_GATES: u64 = 1073;
 /// or converts one, and `TooManyGates` exactly where the circuit has too many.
 pub fn lower_mixed(alloc: Global, circuit: &Mixed) -> Result<Plan, PlanError>
     ensures plan { IfOk result (λ plan. plan ≡ lowered circuit.now) }
-    ensures built { IfOk result (λ plan. all_built circuit.now ≡ true) }
+    ensures keeps { IfOk result (λ plan. KeepsEvaluation circuit.now plan) }
     ensures not_built { IsErrOf result PlanError.NotBuilt ↔ (all_built circuit.now ≡ false) }
     ensures too_many { (gates : ℕ) → IsErrOf result (PlanError.TooManyGates gates) ↔
         ((all_built circuit.now ≡ true) × (most_gates < all_gates circuit.now) × (gates ≡ all_gates circuit.now)) }
@@ -121,7 +121,8 @@ fn is_built(circuit: &Mixed, at: u32) -> bool
 /// The gates of a circuit whose statements are built.
 fn lower_built(alloc: Global, circuit: &Mixed) -> Result<Plan, NoMemory>
     requires { all_built circuit.now ≡ true }
-    ensures { IfOk result (λ plan. plan ≡ lowered circuit.now) }
+    ensures plan { IfOk result (λ plan. plan ≡ lowered circuit.now) }
+    ensures keeps { IfOk result (λ plan. KeepsEvaluation circuit.now plan) }
 {
     let mut plan = Plan::new(alloc, circuit.parties());
     let mut inputs = 0;

@@ -1,5 +1,4 @@
-use Rattle.std.proofs.Common.{◌≡◌, ◌<◌, ◌&&◌, true, false, Bool, List, [], ◌∷◌, length, take, not, sym, ◌∙◌, ap, ap₂, refl, arith}
-use Rattle.mixed_circuit.specs.Circuit.{Statement}
+use Rattle.std.proofs.Common.{◌≡◌, sym, ◌∙◌, arith}
 use Rattle.gate_plan.specs.Lowering.{is_built}
 use Rattle.gate_plan.proofs.StepLemmas.{of_here}
 use Rattle.gate_plan.proofs.BuiltLemmas.{some_there, all_next, not_all}

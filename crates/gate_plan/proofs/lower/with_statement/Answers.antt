@@ -1,10 +1,10 @@
-use Rattle.std.proofs.Common.{ℕ, suc, ◌≡◌, ◌<◌, ◌+◌, List, length, sym, ◌∙◌, ap, ap₂, subst, arith}
+use Rattle.std.proofs.Common.{suc, ◌≡◌, ◌+◌, List, length, sym, ◌∙◌, ap, ap₂, subst, arith}
 use Rattle.std.specs.Prelude.{IfOk}
 use Rattle.mixed_circuit.specs.Circuit.{Shape, shape_of, width_of}
 use Rattle.mixed_circuit.specs.declared.language.Operation.TheVariants.{ConstBits}
 use Rattle.gate_plan.specs.Gate.{Gate}
 use Rattle.gate_plan.specs.Plan.{Gates, IsGate, with_gate}
-use Rattle.gate_plan.specs.Lowering.{wire_handled, lowered_to, lowered_before}
+use Rattle.gate_plan.specs.Lowering.{wire_handled, lowered_to}
 use Rattle.gate_plan.proofs.GatesLemmas.{some_at, gate_at, next_gate, count}
 use Rattle.gate_plan.proofs.StepLemmas.{handled, gate_valid, code_gate, constant_width, of_here, shape_here}
 use Rattle.gate_plan.proofs.lower.with_statement.Goals as goal
@@ -34,7 +34,7 @@ with_gate-requires-clause-gate c =
     let wired = of_here _ here.0 (λ s. c.wire_handled.result ≡ wire_handled circuit.statements s) here.1 c.wire_handled.ensures.value in
     let same = shape_here circuit.statements c.args.at here.0 (shape_of c.form.result) here.1 c.form.ensures.value in
     let is = code_gate circuit c.requires.circuit c.requires.built c.args.at here.0 here.1 c.in-Some-gate_of.kind c.gate_of.result (shape_of c.form.result) c.args.inputs c.in-Some.wire c.width_in.result
-        same c.requires.inputs (sym c.in-Some.is ∙ wired) c.gate_of.ensures.kind c.in-Some-gate_of.is c.width_in.ensures in
+    same c.requires.inputs (sym c.in-Some.is ∙ wired) c.gate_of.ensures.kind c.in-Some-gate_of.is c.width_in.ensures in
     let valid = gate_valid circuit c.requires.circuit c.requires.built c.args.at here.0 here.1 in
     let P : Gates → Gate → Type 0 = λ plan gate. IsGate plan.parties plan.gates gate in
     subst (λ gate. P c.args.plan gate) (sym is) (subst (λ plan. P plan (gate_at circuit c.requires.circuit c.requires.built c.args.at here.0 here.1)) (sym c.requires.before) valid)
@@ -54,9 +54,9 @@ returns-in-Some-gate_of c =
     let wired = of_here _ here.0 (λ s. c.wire_handled.result ≡ wire_handled circuit.statements s) here.1 c.wire_handled.ensures.value in
     let same = shape_here circuit.statements c.args.at here.0 (shape_of c.form.result) here.1 c.form.ensures.value in
     let is = code_gate circuit c.requires.circuit c.requires.built c.args.at here.0 here.1 c.in-Some-gate_of.kind c.gate_of.result (shape_of c.form.result) c.args.inputs c.in-Some.wire c.width_in.result
-        same c.requires.inputs (sym c.in-Some.is ∙ wired) c.gate_of.ensures.kind c.in-Some-gate_of.is c.width_in.ensures in
+    same c.requires.inputs (sym c.in-Some.is ∙ wired) c.gate_of.ensures.kind c.in-Some-gate_of.is c.width_in.ensures in
     let gates : List Gate → Gates = λ all. record { parties = circuit.parties; gates = all } in
     let later : suc c.args.at ≡ c.args.at + 1 = omega arith in
     let next = ap₂ (λ p g. with_gate p g) c.requires.before is
-        ∙ (sym (ap gates (next_gate circuit c.requires.circuit c.requires.built c.args.at here.0 here.1)) ∙ ap (lowered_to circuit) later) in
+    ∙ (sym (ap gates (next_gate circuit c.requires.circuit c.requires.built c.args.at here.0 here.1)) ∙ ap (lowered_to circuit) later) in
     subst (λ (p : Gates). IfOk c.with_gate.result (λ plan. plan ≡ p)) next c.with_gate.ensures

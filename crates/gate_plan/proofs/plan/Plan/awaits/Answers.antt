@@ -1,6 +1,6 @@
-use Rattle.std.proofs.Common.{◌≡◌, zero, suc, Bool, true, false, Option, Some, None, ℕ, refl, sym, ◌∙◌, ap, arith}
+use Rattle.std.proofs.Common.{true, sym, ◌∙◌, ap}
 use Rattle.std.specs.Prelude.{slice_get}
-use Rattle.gate_plan.specs.Messages.{awaits, hears, heard_rounds}
+use Rattle.gate_plan.specs.Messages.{awaits}
 use Rattle.gate_plan.proofs.MessageLemmas.{heard_is}
 use Rattle.gate_plan.proofs.plan.Plan.awaits.Goals as goal
 

@@ -1,9 +1,9 @@
-use Rattle.std.proofs.Common.{◌≡◌, ◌<◌, length, ap, sym, ◌∙◌, subst, Some, refl, arith}
+use Rattle.std.proofs.Common.{◌<◌, length, ap, sym, ◌∙◌, subst, arith}
 use Rattle.std.specs.Prelude.{slice_get}
 use Rattle.std.proofs.lemmas.Option.{get_or_from_slice_get}
 use Rattle.share_types.proofs.Parties.{length-each}
 use Rattle.gate_plan.specs.Plan.{Gates}
-use Rattle.gate_plan.specs.Needs.{offset, offsets_of}
+use Rattle.gate_plan.specs.Needs.{offset}
 use Rattle.gate_plan.proofs.NeedsLemmas.{slice_get-each}
 use Rattle.gate_plan.proofs.plan.Plan.offset.Goals as goal
 

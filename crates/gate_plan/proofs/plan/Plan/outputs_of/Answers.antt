@@ -1,6 +1,4 @@
-use Rattle.std.proofs.Common.{◌≡◌, ◌<◌, true, false, sym, ◌∙◌, ap, arith, Some}
-use Rattle.std.specs.Prelude.{slice_get}
-use Rattle.gate_plan.specs.Gate.{Gate}
+use Rattle.std.proofs.Common.{true, false, sym, ◌∙◌, ap, arith}
 use Rattle.gate_plan.specs.Messages.{tells, tells_by}
 use Rattle.gate_plan.specs.Gate.{receiver_of}
 use Rattle.gate_plan.proofs.MessageLemmas.{count_next, gate_there}

@@ -1,5 +1,4 @@
-use Rattle.std.proofs.Common.{◌≡◌, ◌+◌, true, false, length, refl, sym, ◌∙◌, ap, arith}
-use Rattle.gate_plan.specs.Messages.{stages, hears, heard_rounds}
+use Rattle.std.proofs.Common.{◌+◌, true, length, sym, ◌∙◌, ap}
 use Rattle.gate_plan.proofs.MessageLemmas.{heard_is}
 use Rattle.gate_plan.proofs.plan.Plan.stages.Goals as goal
 

@@ -1,8 +1,8 @@
-use Rattle.std.proofs.Common.{◌≡◌, ◌<◌, ◌++◌, [], ◌∷◌, List, length, ap, sym, ◌∙◌, subst, refl, arith}
+use Rattle.std.proofs.Common.{◌≡◌, ◌<◌, ◌++◌, [], ◌∷◌, List, length, ap, sym, ◌∙◌, subst, arith}
 use Rattle.gate_plan.specs.Gate.{Gate, kind_of}
 use Rattle.gate_plan.specs.Plan.{Gates, IsGate, IsPlan}
 use Rattle.gate_plan.specs.Needs.{offset, offsets_of, sum_of_needs}
-use Rattle.gate_plan.proofs.NeedsLemmas.{AreAtMost, gate-most, offset-most, offset-next, offsets-push}
+use Rattle.gate_plan.proofs.NeedsLemmas.{gate-most, offset-most, offset-next, offsets-push}
 use Rattle.gate_plan.proofs.PlanLemmas.{fields, IsPlan-push}
 use Rattle.gate_plan.proofs.plan.Plan.with_gate.Goals as goal
 
