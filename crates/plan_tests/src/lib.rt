@@ -1,0 +1,5 @@
+//! Tests of plans: the gates of circuits, what they need, and their messages.
+#![tactic(auto)]
+
+#[cfg(test)]
+mod plans;
