@@ -7,3 +7,4 @@ pub mod StepLemmas
 pub mod ProgramLemmas
 pub mod SettledLemmas
 pub mod AnswerLemmas
+pub mod WordsLemmas

@@ -1,7 +1,8 @@
+use Rattle.std.proofs.Common.{string_bytes}
 use Rattle.mot_base.specs.Faults.{Rose}
+use Rattle.cli_words.specs.Request.{plain_request}
 use Rattle.motion_cli.specs.Commands.{PlainReads}
 use Rattle.motion_cli.specs.Refusal.{came_to}
-use Rattle.motion_cli.specs.Words.{plain_request}
 use Rattle.motion_cli.proofs.StepLemmas.{both_loaded}
 use Rattle.motion_cli.proofs.commands.plain_report.Goals as goal
 
@@ -9,6 +10,7 @@ pub returns-clause-came : goal.returns-clause-came
 returns-clause-came g c =
     both_loaded (g.F.Files.holds c.args.files.now) (g.F.Files.holds c.load.new.files)
     (Rose (g.F.Files.faults c.args.files.now) (g.F.Files.faults c.load-2.new.files))
-    c.args.plain.now.circuit.now c.args.plain.now.values.now c.in_ok-circuit.circuit.items c.in_ok-values.values.items
-    c.as_slice.result.now c.as_slice-2.result.now (PlainReads (plain_request c.args.plain.now)) (came_to c.plain_of_texts.result)
-    c.load.ensures.same c.in_ok-circuit.ensures.ok c.in_ok-values.ensures.ok c.as_slice.ensures.value c.as_slice-2.ensures.value c.plain_of_texts.ensures
+    (string_bytes c.args.words.now.circuit) (string_bytes c.args.words.now.values) c.as_str.result.now c.as_str-2.result.now
+    c.in_ok-circuit.circuit.items c.in_ok-values.values.items
+    (PlainReads (plain_request c.args.words.now)) (came_to c.plain_of_texts.result)
+    c.load.ensures.same c.as_str.ensures.value c.as_str-2.ensures.value c.in_ok-circuit.ensures.ok c.in_ok-values.ensures.ok c.plain_of_texts.ensures
