@@ -43,6 +43,10 @@ abbrev pub LoadsBoth : Option Holding → Type 0 → Text → Text → (Text →
 LoadsBoth told rose circuit values next =
     Loads told rose circuit (λ c. Loads told rose values (λ v. next c v))
 
+-- one of both files is not loaded
+abbrev pub AreUnloaded : Option Holding → Type 0 → Text → Text → Outcome → Type 0
+AreUnloaded told rose circuit values = LoadsBoth told rose circuit values (λ c v end. ⊥)
+
 -- `plain`, once both files are loaded
 abbrev pub PlainReads : PlainRequest → Text → Text → Outcome → Type 0
 PlainReads request circuit values =

@@ -17,7 +17,7 @@ ghost use Rattle.motion_cli.specs.Run.{is_built, word_of_shares};
 ghost use Rattle.motion_cli.specs.Steps.{Fault};
 ghost use Rattle.cli_words.specs.Request.{plain_request, local_request};
 
-use crate::load::load;
+use crate::load::load_both;
 use crate::refusal::Refusal;
 use crate::report::{Notation, report_all, report_parties};
 use crate::run::{Shares, is_built, run_on_shares};
@@ -39,8 +39,7 @@ pub(crate) fn plain_report<'a, F: Files>(
     ensures same { F.holds files.new ≡ F.holds files.old }
     ensures never_falls { F.faults files.old ≤ F.faults files.new }
 {
-    let circuit = load(alloc, files, words.circuit.as_str())?;
-    let values = load(alloc, files, words.values.as_str())?;
+    let (circuit, values) = load_both(alloc, files, words.circuit.as_str(), words.values.as_str())?;
     plain_of_texts(alloc, words, circuit, values)
 }
 
@@ -74,8 +73,7 @@ pub(crate) fn local_report<'a, F: Files>(
     ensures same { F.holds files.new ≡ F.holds files.old }
     ensures never_falls { F.faults files.old ≤ F.faults files.new }
 {
-    let circuit = load(alloc, files, words.circuit.as_str())?;
-    let values = load(alloc, files, words.values.as_str())?;
+    let (circuit, values) = load_both(alloc, files, words.circuit.as_str(), words.values.as_str())?;
     local_of_texts(alloc, words, circuit, values)
 }
 
