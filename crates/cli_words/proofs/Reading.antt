@@ -1,6 +1,6 @@
 -- The reading gives exactly the request that the words ask for.
 use Rattle.std.proofs.Common.{◌≡◌, ◌==◌, Bool, true, false, List, [], ◌∷◌, length, Some, None, Option, option_and_then, refl, sym, ◌∙◌, ap, subst, inl, inr}
-use Rattle.std.specs.Prelude.{◌⊎◌, Result, Ok, Err, IfOk, IsErrOf, if◌then◌else◌, bytes_eq}
+use Rattle.std.specs.Prelude.{◌⊎◌, Result, Ok, Err, IfOk, if◌then◌else◌, bytes_eq}
 use Rattle.std.specs.List.{list_any}
 use Rattle.std.proofs.lemmas.Slice.Eq.{bytes_eq-Decides}
 use Rattle.std.proofs.lemmas.Bool.Decides.{nat_tests}

@@ -136,11 +136,7 @@ pub fn read_needs(
 }
 
 /// Reads the words after `deal`, as `read_words` does with that name in front of them.
-pub fn read_deal(
-    alloc: Global,
-    offers: &[Offer],
-    words: &[String],
-) -> Result<DealWords, WordsError>
+pub fn read_deal(alloc: Global, offers: &[Offer], words: &[String]) -> Result<DealWords, WordsError>
     ensures read { IfOk result (λ read.
         AsksAs offers.now Command.Deal (texts words.now) (deal (deal_request read))) }
     ensures refused { IsErrOf result WordsError.Usage →

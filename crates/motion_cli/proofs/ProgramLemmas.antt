@@ -1,5 +1,5 @@
 -- How a call of the program ends.
-use Rattle.std.proofs.Common.{ℕ, ◌≡◌, inl, inr, List, [], Option, Some, None, Result, Ok, Err, String, Global, refl, sym, ap, subst}
+use Rattle.std.proofs.Common.{ℕ, ◌≡◌, inl, inr, [], Option, Some, None, Result, Ok, Err, String, Global, refl, sym, ap, subst}
 use Rattle.std.specs.Prelude.{IfOk, IsErrOf}
 use Rattle.mot_base.specs.Faults.{Rose}
 use Rattle.mot_base.specs.Files.{Holding}

@@ -1,5 +1,5 @@
 -- What the words and the files of a call settle.
-use Rattle.std.proofs.Common.{ℕ, ◌≡◌, ◌≢◌, inl, inr, Bool, List, [], ◌∷◌, Option, Some, None, refl, sym, ap, subst, ◌∙◌, arith}
+use Rattle.std.proofs.Common.{ℕ, ◌≡◌, ◌≢◌, inl, inr, Bool, List, [], Option, Some, None, sym, ap, subst, ◌∙◌, arith}
 use Rattle.std.specs.Prelude.{codes, IsSomeAnd, map, false}
 use Rattle.mot_base.specs.Files.{Holding, IsTooLong}
 use Rattle.share_types.specs.Bits.{number}

@@ -1,8 +1,8 @@
 -- What words ask for, whichever list of offers says what is run.
-use Rattle.std.proofs.Common.{◌≡◌, Bool, true, false, ◌&&◌, ◌||◌, List, [], ◌∷◌, map, refl, sym, ◌∙◌, ap, ap₂, subst}
+use Rattle.std.proofs.Common.{◌≡◌, Bool, true, false, ◌&&◌, ◌||◌, List, [], ◌∷◌, map, refl, sym, ◌∙◌, ap, subst}
 use Rattle.std.specs.List.{list_any}
 use Rattle.cli_words.specs.Table.{row, is_same, option_kind}
-use Rattle.cli_words.specs.Grammar.{is_command, is_offered, is_run_with, takes_option, given, IsGiven, Asks, IsNamed}
+use Rattle.cli_words.specs.Grammar.{is_command, is_offered, is_run_with, takes_option, given, IsGiven, Asks}
 use Rattle.cli_words.specs.Request.{Request, PlainRequest, LocalRequest, plain, needs, deal, local, command_of, option_of}
 use Rattle.cli_words.specs.declared.table.Command.{Command}
 use Rattle.cli_words.specs.declared.table.Command.TheVariants.{Plain, Needs, Deal, Local}
@@ -10,7 +10,7 @@ use Rattle.cli_words.specs.declared.table.OptionName.{OptionName}
 use Rattle.cli_words.specs.declared.table.Offer.{Offer}
 use Rattle.cli_words.proofs.Reading.{one_request}
 use Rattle.text_lines.specs.Text.{Text}
-use Rattle.motion_cli.specs.Words.{run_commands, command_offered, AreRun, AsksFor, AsksPlain, AsksLocal, NamesCommand, IsRun}
+use Rattle.motion_cli.specs.Words.{command_offered, AreRun, AsksFor, AsksPlain, AsksLocal, NamesCommand, IsRun}
 
 abbrev names : Command → Command × List OptionName → Bool
 names command offer = is_command offer.0 command

@@ -1,4 +1,4 @@
-use Rattle.std.proofs.Common.{◌≡◌, List, Some, refl, sym, ◌∙◌, ap}
+use Rattle.std.proofs.Common.{List, sym, ◌∙◌, ap}
 use Rattle.cli_words.specs.Grammar.{Piece, texts}
 use Rattle.cli_words.specs.Pass.{line_of, pieces_of, line_for}
 use Rattle.cli_words.specs.declared.read.WordsError.TheVariants.{Usage}

@@ -1,4 +1,3 @@
-use Rattle.std.proofs.Common.{◌≡◌}
 use Rattle.cli_words.specs.declared.read.WordsError.TheVariants.{Usage}
 use Rattle.cli_words.proofs.Steps.{handed_on}
 use Rattle.cli_words.proofs.read.read_line.Goals as goal

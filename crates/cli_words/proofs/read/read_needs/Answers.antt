@@ -1,4 +1,4 @@
-use Rattle.std.proofs.Common.{◌≡◌, sym, ◌∙◌, ap}
+use Rattle.std.proofs.Common.{◌∙◌, ap}
 use Rattle.cli_words.specs.Grammar.{texts}
 use Rattle.cli_words.specs.Request.{needs, needs_request}
 use Rattle.cli_words.specs.declared.read.WordsError.TheVariants.{Usage}

@@ -1,8 +1,7 @@
-use Rattle.std.proofs.Common.{◌≡◌, ◌∷◌, List, Some, sym, ◌∙◌, ap, subst, string_bytes}
-use Rattle.cli_words.specs.Table.{Text, row}
-use Rattle.cli_words.specs.Grammar.{Asks, texts}
+use Rattle.std.proofs.Common.{◌≡◌, ◌∷◌, Some, sym, ◌∙◌, ap, string_bytes}
+use Rattle.cli_words.specs.Table.{Text}
+use Rattle.cli_words.specs.Grammar.{texts}
 use Rattle.cli_words.specs.Pass.{command_named}
-use Rattle.cli_words.specs.declared.table.Command.{Command}
 use Rattle.cli_words.proofs.Reading.{named_from, as_whole, as_none}
 use Rattle.cli_words.proofs.read.read_words.Goals as goal
 
