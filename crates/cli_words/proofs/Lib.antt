@@ -3,6 +3,6 @@ mod Clap
 mod CodeSteps
 mod Cutting
 mod Meaning
-mod Reading
+pub mod Reading
 mod Spelling
 mod Steps

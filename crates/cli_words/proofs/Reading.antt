@@ -6,16 +6,18 @@ use Rattle.std.proofs.lemmas.Slice.Eq.{bytes_eq-Decides}
 use Rattle.std.proofs.lemmas.Bool.Decides.{nat_tests}
 use Rattle.std.proofs.Common.{arith}
 use Rattle.cli_words.specs.Table.{Text, Kind, row, option_kind, Meaning, meaning_of, is_same}
-use Rattle.cli_words.specs.Request.{Request, command_of, option_of}
-use Rattle.cli_words.specs.Grammar.{Piece, words_of, given, is_offered, takes_option, meanings, IsGiven, absent, once, Asks}
-use Rattle.cli_words.specs.Pass.{LineTexts, command_named, cut, allowed, value_for, counted, line_for, request_for, line_request, reading}
-use Rattle.cli_words.specs.Canon.{value_in, Fits}
+use Rattle.cli_words.specs.Request.{Request, command_of, option_of, request_of}
+use Rattle.cli_words.specs.Grammar.{Piece, words_of, given, is_offered, takes_option, meanings, IsGiven, absent, once, Asks, AsksAs}
+use Rattle.cli_words.specs.Pass.{LineTexts, command_named, cut, allowed, value_for, counted, line_for, request_for, line_request, reading, IsLine}
+use Rattle.cli_words.specs.Canon.{value_in, Fits, canonical}
 use Rattle.cli_words.specs.declared.table.Command.{Command}
 use Rattle.cli_words.specs.declared.table.Command.TheVariants.{Plain, Needs, Deal, Local}
 use Rattle.cli_words.specs.declared.table.OptionName.{OptionName}
 use Rattle.cli_words.specs.declared.table.OptionName.TheVariants.{As, Parties, Dealer}
 use Rattle.cli_words.specs.declared.table.Offer.{Offer}
 use Rattle.cli_words.specs.declared.pass.State.TheVariants.{Between}
+use Rattle.cli_words.specs.declared.read.WordsError.{WordsError}
+use Rattle.cli_words.specs.declared.words.CommandWords.{CommandWords}
 use Rattle.cli_words.proofs.Steps.{mapped, chained}
 use Rattle.cli_words.proofs.Cutting.{spelt_from, spelt_to}
 use Rattle.cli_words.proofs.Meaning.{Means, said, means_from, means_to}
@@ -38,7 +40,7 @@ named_from name c h = go (bytes_eq name (row Plain).text) (bytes_eq-Decides name
     go false p false n false d true l h = let e : Local ≡ c = cc in l refl ∙ ap (λ (x : Command). (row x).text) e
     go false p false n false d false l h = cc
 
-named_row : (c : Command) → command_named (row c).text ≡ Some c
+pub named_row : (c : Command) → command_named (row c).text ≡ Some c
 named_row Plain = refl
 named_row Needs = refl
 named_row Deal = refl
@@ -294,3 +296,63 @@ asked offers (name ∷ rest) = by_name (command_named name) refl
         → ((r : Request) × Asks offers (name ∷ rest) r) ⊎ ((r : Request) → ¬ (Asks offers (name ∷ rest) r))
     by_name None n = inr (not_named offers name rest n)
     by_name (Some c) n = by_offer c n (is_offered offers c) refl
+
+-- The line that the words after the name of a command make.
+
+pub line_fits_row : {offers : List Offer} {c : Command} {words : List Text} {line : LineTexts}
+    → IsLine offers c words line → Fits c line
+line_fits_row l = fits_of _ _ l.pieces _ l.made
+
+-- what `clap` gives back is the line that it was given
+pub line_through : {offers : List Offer} {c : Command} {words list : List Text} {through : LineTexts}
+    → ((line : LineTexts) × IsLine offers c words line × (list ≡ canonical line))
+    → ((line : LineTexts) → Fits c line → list ≡ canonical line → through ≡ line) → IsLine offers c words through
+line_through {offers} {c} {words} made back =
+    let P : LineTexts → Type 0 = λ x. IsLine offers c words x in
+    subst P (sym (back made.0 (line_fits_row made.1) made.2)) made.1
+
+pub line_asks : {offers : List Offer} {c : Command} {words : List Text} {line : LineTexts} (r : Request)
+    → IsLine offers c words line → request_for c line ≡ Some r → AsksAs offers c words r
+line_asks {offers} {c} {words} {line} r l h =
+    asks_from offers (row c).text words c r (named_row c) l.offered (line_request_is offers c words l.pieces line l.spelt l.made ∙ h)
+
+pub line_refused : {offers : List Offer} {c : Command} {words : List Text} {line : LineTexts}
+    → IsLine offers c words line → request_for c line ≡ None → (r : Request) → ¬ (AsksAs offers c words r)
+line_refused {offers} {c} {words} {line} l h =
+    none_asked offers (row c).text words c (named_row c) l.offered (line_request_is offers c words l.pieces line l.spelt l.made ∙ h)
+
+-- What a reader of the words after a command's name answers.
+
+pub read_as : {W : Type 0} {offers : List Offer} {c : Command} {words : List Text} {line : LineTexts} (is : W → Request)
+    (r : Result W WordsError) → IsLine offers c words line → IfOk r (λ w. request_for c line ≡ Some (is w))
+    → IfOk r (λ w. AsksAs offers c words (is w))
+read_as {W} {offers} {c} {words} {line} is r l h =
+    ok_map (λ (w : W). request_for c line ≡ Some (is w)) (λ w. AsksAs offers c words (is w)) (λ w e. line_asks (is w) l e) r h
+
+pub cut_refused : (offers : List Offer) (c : Command) (words : List Text) → is_offered offers c ≡ true
+    → cut Between words ≡ None → (r : Request) → ¬ (AsksAs offers c words r)
+cut_refused offers c words offered h =
+    none_asked offers (row c).text words c (named_row c) offered (none_cut offers c words h)
+
+pub lined_refused : (offers : List Offer) (c : Command) (words : List Text) (pieces : List Piece) → is_offered offers c ≡ true
+    → cut Between words ≡ Some pieces → line_for offers c pieces ≡ None → (r : Request) → ¬ (AsksAs offers c words r)
+lined_refused offers c words pieces offered h k =
+    none_asked offers (row c).text words c (named_row c) offered (none_lined offers c words pieces h k)
+
+-- From the words behind a command's name to all words.
+
+pub whole_line : {c : Command} {name : Text} {rest words : List Text} → words ≡ name ∷ rest → command_named name ≡ Some c
+    → words ≡ (row c).text ∷ rest
+whole_line {c} {name} {rest} is named = is ∙ ap (λ (x : Text). x ∷ rest) (named_from name c named)
+
+pub as_whole : (offers : List Offer) (c : Command) (name : Text) (rest words : List Text) → words ≡ name ∷ rest
+    → command_named name ≡ Some c → (r : Result CommandWords WordsError)
+    → IfOk r (λ w. AsksAs offers c rest (request_of w)) → IfOk r (λ w. Asks offers words (request_of w))
+as_whole offers c name rest words is named r h =
+    ok_map (λ (w : CommandWords). AsksAs offers c rest (request_of w)) (λ w. Asks offers words (request_of w))
+    (λ w asks. subst (λ (x : List Text). Asks offers x (request_of w)) (sym (whole_line is named)) asks) r h
+
+pub as_none : (offers : List Offer) (c : Command) (name : Text) (rest words : List Text) → words ≡ name ∷ rest
+    → command_named name ≡ Some c → ((r : Request) → ¬ (AsksAs offers c rest r)) → (r : Request) → ¬ (Asks offers words r)
+as_none offers c name rest words is named none r asks =
+    none r (subst (λ (x : List Text). Asks offers x r) (whole_line is named) asks)

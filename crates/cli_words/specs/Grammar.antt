@@ -108,3 +108,13 @@ pub record Asks (offers : List Offer) (words : List Text) (request : Request) : 
   pub positional : meanings (row (command_of request)).words (words_of pieces) ≡ Some (positional_of request)
   pub options : (o : OptionName) → IsGiven
       (takes_option offers (command_of request) o) (option_kind o) (given o pieces) (option_of o request)
+
+-- the words after the name of a command ask for this
+abbrev pub AsksAs : List Offer → Command → List Text → Request → Type 0
+AsksAs offers command words request = Asks offers ((row command).text ∷ words) request
+
+-- the words after the program's name begin with the name of a command that is run
+abbrev pub IsNamed : List Offer → List Text → Type 0
+IsNamed offers words =
+    (command : Command) × (rest : List Text)
+    × (words ≡ (row command).text ∷ rest) × (is_offered offers command ≡ true)

@@ -1,5 +1,5 @@
 -- What the steps of the reading compute, as functions; the grammar is in `Grammar`.
-use Rattle.std.specs.Prelude.{ℕ, ◌-◌, ◌==◌, Bool, true, false, not, if◌then◌else◌, List, [], ◌∷◌, length, codes, bytes_eq, Option, Some, None, option_map, option_and_then, map}
+use Rattle.std.specs.Prelude.{ℕ, ◌≡◌, ◌-◌, ◌==◌, Bool, true, false, not, if◌then◌else◌, List, [], ◌∷◌, length, codes, bytes_eq, Option, Some, None, option_map, option_and_then, map}
 use Rattle.std.specs.Str.{byte}
 use Rattle.std.specs.Option.{option_copied, option_or}
 use Rattle.std.specs.Borrow.{Bor}
@@ -126,6 +126,13 @@ line_for offers command pieces =
     (value_for offers command pieces Dealer))
     (value_for offers command pieces Parties))
     (value_for offers command pieces As)
+
+-- the line that the words after the name of a command make, where the command is run
+pub record IsLine (offers : List Offer) (command : Command) (words : List Text) (line : LineTexts) : Type 0 where
+  pub offered : is_offered offers command ≡ true
+  pub pieces : List Piece
+  pub spelt : cut Between words ≡ Some pieces
+  pub made : line_for offers command pieces ≡ Some line
 
 -- What a line asks for.
 

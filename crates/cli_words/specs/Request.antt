@@ -6,9 +6,13 @@ use Rattle.cli_words.specs.declared.table.Command.TheVariants.{Plain, Needs, Dea
 use Rattle.cli_words.specs.declared.table.OptionName.{OptionName}
 use Rattle.cli_words.specs.declared.table.OptionName.TheVariants.{As, Parties, Dealer}
 use Rattle.cli_words.specs.declared.table.Sharing.{Sharing}
-use Rattle.cli_words.specs.declared.request.CommandWords as declared
-use Rattle.cli_words.specs.declared.request.CommandWords.TheVariants as words
-use Rattle.cli_words.specs.declared.request.BristolWords.{BristolWords}
+use Rattle.cli_words.specs.declared.words.CommandWords.{CommandWords}
+use Rattle.cli_words.specs.declared.words.CommandWords.TheVariants as words
+use Rattle.cli_words.specs.declared.words.BristolWords.{BristolWords}
+use Rattle.cli_words.specs.declared.words.PlainWords.{PlainWords}
+use Rattle.cli_words.specs.declared.words.NeedsWords.{NeedsWords}
+use Rattle.cli_words.specs.declared.words.DealWords.{DealWords}
+use Rattle.cli_words.specs.declared.words.LocalWords.{LocalWords}
 
 -- the circuit is a Bristol text: `--as` and `--parties`, which come together
 pub record Bristol : Type 0 where
@@ -88,17 +92,21 @@ option_of Dealer request = option_map name (dealer_in request)
 abbrev pub bristol_of : BristolWords → Bristol
 bristol_of words = record { sharing = words.sharing; parties = words.parties }
 
-abbrev pub request_of : declared.CommandWords → Request
-request_of (words.Plain r) = plain (record {
+abbrev pub plain_request : PlainWords → PlainRequest
+plain_request r = record {
   circuit = string_bytes r.circuit;
   values = string_bytes r.values;
   bristol = option_map bristol_of r.bristol;
-})
-request_of (words.Needs r) = needs (record {
+}
+
+abbrev pub needs_request : NeedsWords → NeedsRequest
+needs_request r = record {
   circuit = string_bytes r.circuit;
   bristol = option_map bristol_of r.bristol;
-})
-request_of (words.Deal r) = deal (record {
+}
+
+abbrev pub deal_request : DealWords → DealRequest
+deal_request r = record {
   prefix = string_bytes r.prefix;
   seed = r.seed.0;
   parties = r.parties;
@@ -106,11 +114,19 @@ request_of (words.Deal r) = deal (record {
   bit = r.bit;
   shared = r.shared;
   key = r.key;
-})
-request_of (words.Local r) = local (record {
+}
+
+abbrev pub local_request : LocalWords → LocalRequest
+local_request r = record {
   circuit = string_bytes r.circuit;
   values = string_bytes r.values;
   seed = r.seed.0;
   bristol = option_map bristol_of r.bristol;
   dealer = option_map string_bytes r.dealer;
-})
+}
+
+abbrev pub request_of : CommandWords → Request
+request_of (words.Plain r) = plain (plain_request r)
+request_of (words.Needs r) = needs (needs_request r)
+request_of (words.Deal r) = deal (deal_request r)
+request_of (words.Local r) = local (local_request r)

@@ -11,10 +11,11 @@ mod pass;
 mod read;
 mod request;
 mod table;
+mod words;
 
 pub use read::{
-    WordsError, options_are_absent_unless_run, read_words, words_are_read_or_refused,
-    words_ask_for_one_request,
+    WordsError, options_are_absent_unless_run, read_deal, read_local, read_needs, read_plain,
+    read_words, words_are_read_or_refused, words_ask_for_one_request,
 };
-pub use request::{BristolWords, CommandWords, DealWords, LocalWords, NeedsWords, PlainWords};
 pub use table::{Command, Offer, OptionName, Sharing};
+pub use words::{BristolWords, CommandWords, DealWords, LocalWords, NeedsWords, PlainWords};

@@ -1,99 +1,26 @@
 //! What the words of a line ask for.
 
-ghost use Rattle.std.specs.Prelude.{◌≡◌, ◌-◌, ◌^◌, Some, None, option_map, string_bytes, IfOk, IfErr, IsErrOf};
+ghost use Rattle.std.specs.Prelude.{◌≡◌, ◌≤◌, ◌-◌, ◌^◌, Some, None, option_map, string_bytes, IfOk, IfErr, IsErrOf};
 ghost use Rattle.std.specs.Char.{is_digit};
 ghost use Rattle.std.specs.List.{list_all};
 ghost use Rattle.std.specs.Option.{option_copied};
+ghost use Rattle.mot_base.specs.Limits.{least_parties, most_parties};
 ghost use Rattle.cli_words.specs.Table.{are_digits, number_in, seed_of, sharing_of};
-ghost use Rattle.cli_words.specs.Request.{bristol_of, request_of};
+ghost use Rattle.cli_words.specs.Request.{plain, needs, deal, local, bristol_of, plain_request, needs_request, deal_request, local_request};
 ghost use Rattle.cli_words.specs.Pass.{count, party_count, bristol_for, request_for, line_of};
 
 use crate::WordsError;
 use crate::pass::Line;
 use crate::table::{Command, Sharing};
+use crate::words::{BristolWords, DealWords, LocalWords, NeedsWords, PlainWords};
 use hex::FromHex;
 use mot_base::{MAX_PARTIES, MIN_PARTIES, NoMemory, Seed};
 use std::alloc::Global;
 
-/// What a line of words asks for.
-#[derive(Debug, Drop)]
-pub enum CommandWords {
-    /// The plain evaluation of a circuit.
-    Plain(PlainWords),
-    /// The correlations that a circuit needs.
-    Needs(NeedsWords),
-    /// Dealer parts.
-    Deal(DealWords),
-    /// A run of all parties in this process.
-    Local(LocalWords),
-}
-
-/// `--as` and `--parties`: the circuit is a Bristol text.
-#[derive(Clone, Copy, Debug)]
-pub struct BristolWords {
-    /// How its wires are shared.
-    pub sharing: Sharing,
-    /// 2 to 8.
-    pub parties: u8,
-}
-
-/// The words after `plain`.
-#[derive(Debug, Drop)]
-pub struct PlainWords {
-    /// The name of the circuit.
-    pub circuit: String,
-    /// The name of the values of the circuit's inputs.
-    pub values: String,
-    /// There where the circuit is a Bristol text.
-    pub bristol: Option<BristolWords>,
-}
-
-/// The words after `needs`.
-#[derive(Debug, Drop)]
-pub struct NeedsWords {
-    /// The name of the circuit.
-    pub circuit: String,
-    /// There where the circuit is a Bristol text.
-    pub bristol: Option<BristolWords>,
-}
-
-/// The words after `deal`.
-#[derive(Debug, Drop)]
-pub struct DealWords {
-    /// What the names of the parts begin with.
-    pub prefix: String,
-    /// What the dealer's tape is derived from.
-    pub seed: Seed,
-    /// 2 to 8.
-    pub parties: u8,
-    /// How many multiplication triples modulo 2^64 are dealt.
-    pub mult: u32,
-    /// How many bit triples, each for one AND.
-    pub bit: u32,
-    /// How many bits that are shared both by XOR and by sum.
-    pub shared: u32,
-    /// How many bits that are shared by XOR, with shares of their products with every party's offset.
-    pub key: u32,
-}
-
-/// The words after `local`.
-#[derive(Debug, Drop)]
-pub struct LocalWords {
-    /// The name of the circuit.
-    pub circuit: String,
-    /// The name of the values of the circuit's inputs.
-    pub values: String,
-    /// What every tape of the run is derived from.
-    pub seed: Seed,
-    /// There where the circuit is a Bristol text.
-    pub bristol: Option<BristolWords>,
-    /// What the names of the dealer parts begin with, where they are loaded.
-    pub dealer: Option<String>,
-}
-
 /// A number of decimal digits from `least` to `most`.
 fn number(text: &str, least: u32, most: u32) -> Result<u32, WordsError>
     ensures ok { IfOk result (λ n. number_in least most text.entry.now ≡ Some n) }
+    ensures range { IfOk result (λ n. (least ≤ n) × (n ≤ most)) }
     ensures err { IfErr result (λ error.
         (error ≡ WordsError.Usage) × (number_in least most text.entry.now ≡ None)) }
 {
@@ -136,6 +63,8 @@ fn count(text: &str) -> Result<u32, WordsError>
 /// How many parties there are.
 fn party_count(text: &str) -> Result<u8, WordsError>
     ensures ok { IfOk result (λ n. party_count text.entry.now ≡ Some n) }
+    ensures some { IfOk result (λ n. least_parties ≤ n) }
+    ensures most { IfOk result (λ n. n ≤ most_parties) }
     ensures err { IfErr result (λ error. (error ≡ WordsError.Usage) × (party_count text.entry.now ≡ None)) }
 {
     let n = number(text, u32::from(MIN_PARTIES), u32::from(MAX_PARTIES))?;
@@ -183,27 +112,10 @@ fn bristol(line: &Line<'_>) -> Result<Option<BristolWords>, WordsError>
     }
 }
 
-/// What a line of the command asks for.
-pub(crate) fn request_for(
-    alloc: Global,
-    command: Command,
-    line: &Line<'_>,
-) -> Result<CommandWords, WordsError>
-    ensures ok { IfOk result (λ request.
-        request_for command (line_of line.entry.now) ≡ Some (request_of request)) }
-    ensures err { IsErrOf result WordsError.Usage → request_for command (line_of line.entry.now) ≡ None }
-{
-    match command {
-        Command::Plain => plain(alloc, line),
-        Command::Needs => needs(alloc, line),
-        Command::Deal => deal(alloc, line),
-        Command::Local => local(alloc, line),
-    }
-}
-
-fn plain(alloc: Global, line: &Line<'_>) -> Result<CommandWords, WordsError>
-    ensures ok { IfOk result (λ request.
-        request_for Command.Plain (line_of line.entry.now) ≡ Some (request_of request)) }
+/// What a line of `plain` asks for.
+pub(crate) fn plain_words(alloc: Global, line: &Line<'_>) -> Result<PlainWords, WordsError>
+    ensures ok { IfOk result (λ words.
+        request_for Command.Plain (line_of line.entry.now) ≡ Some (plain (plain_request words))) }
     ensures err { IsErrOf result WordsError.Usage →
         request_for Command.Plain (line_of line.entry.now) ≡ None }
 {
@@ -211,16 +123,17 @@ fn plain(alloc: Global, line: &Line<'_>) -> Result<CommandWords, WordsError>
     let [circuit, values] = line.words.as_slice() else {
         return Err(WordsError::Usage);
     };
-    Ok(CommandWords::Plain(PlainWords {
+    Ok(PlainWords {
         circuit: String::from_str(alloc, circuit)?,
         values: String::from_str(alloc, values)?,
         bristol,
-    }))
+    })
 }
 
-fn needs(alloc: Global, line: &Line<'_>) -> Result<CommandWords, WordsError>
-    ensures ok { IfOk result (λ request.
-        request_for Command.Needs (line_of line.entry.now) ≡ Some (request_of request)) }
+/// What a line of `needs` asks for.
+pub(crate) fn needs_words(alloc: Global, line: &Line<'_>) -> Result<NeedsWords, WordsError>
+    ensures ok { IfOk result (λ words.
+        request_for Command.Needs (line_of line.entry.now) ≡ Some (needs (needs_request words))) }
     ensures err { IsErrOf result WordsError.Usage →
         request_for Command.Needs (line_of line.entry.now) ≡ None }
 {
@@ -228,15 +141,16 @@ fn needs(alloc: Global, line: &Line<'_>) -> Result<CommandWords, WordsError>
     let [circuit] = line.words.as_slice() else {
         return Err(WordsError::Usage);
     };
-    Ok(CommandWords::Needs(NeedsWords {
+    Ok(NeedsWords {
         circuit: String::from_str(alloc, circuit)?,
         bristol,
-    }))
+    })
 }
 
-fn deal(alloc: Global, line: &Line<'_>) -> Result<CommandWords, WordsError>
-    ensures ok { IfOk result (λ request.
-        request_for Command.Deal (line_of line.entry.now) ≡ Some (request_of request)) }
+/// What a line of `deal` asks for.
+pub(crate) fn deal_words(alloc: Global, line: &Line<'_>) -> Result<DealWords, WordsError>
+    ensures ok { IfOk result (λ words.
+        request_for Command.Deal (line_of line.entry.now) ≡ Some (deal (deal_request words))) }
     ensures err { IsErrOf result WordsError.Usage → request_for Command.Deal (line_of line.entry.now) ≡ None }
 {
     let [prefix, seed_word, parties, mult, bit, shared, key] = line.words.as_slice() else {
@@ -248,7 +162,7 @@ fn deal(alloc: Global, line: &Line<'_>) -> Result<CommandWords, WordsError>
     let bit = count(bit)?;
     let shared = count(shared)?;
     let key = count(key)?;
-    Ok(CommandWords::Deal(DealWords {
+    Ok(DealWords {
         prefix: String::from_str(alloc, prefix)?,
         seed,
         parties,
@@ -256,12 +170,13 @@ fn deal(alloc: Global, line: &Line<'_>) -> Result<CommandWords, WordsError>
         bit,
         shared,
         key,
-    }))
+    })
 }
 
-fn local(alloc: Global, line: &Line<'_>) -> Result<CommandWords, WordsError>
-    ensures ok { IfOk result (λ request.
-        request_for Command.Local (line_of line.entry.now) ≡ Some (request_of request)) }
+/// What a line of `local` asks for.
+pub(crate) fn local_words(alloc: Global, line: &Line<'_>) -> Result<LocalWords, WordsError>
+    ensures ok { IfOk result (λ words.
+        request_for Command.Local (line_of line.entry.now) ≡ Some (local (local_request words))) }
     ensures err { IsErrOf result WordsError.Usage →
         request_for Command.Local (line_of line.entry.now) ≡ None }
 {
@@ -270,13 +185,13 @@ fn local(alloc: Global, line: &Line<'_>) -> Result<CommandWords, WordsError>
         return Err(WordsError::Usage);
     };
     let seed = seed(seed_word)?;
-    Ok(CommandWords::Local(LocalWords {
+    Ok(LocalWords {
         circuit: String::from_str(alloc, circuit)?,
         values: String::from_str(alloc, values)?,
         seed,
         bristol,
         dealer: owned(alloc, line.dealer)?,
-    }))
+    })
 }
 
 /// A copy of a text that may be there.

@@ -1,5 +1,5 @@
 -- What the answer of a call says of its words and its files.
-use Rattle.std.proofs.Common.{ℕ, ◌≡◌, ◌≢◌, ◌⊎◌, inl, inr, Option, Some, refl, sym, ap, subst, ◌∙◌, arith}
+use Rattle.std.proofs.Common.{ℕ, ◌≡◌, ◌≢◌, ◌⊎◌, inl, inr, Option, Some, refl, sym, subst, ◌∙◌, arith}
 use Rattle.mot_base.specs.Faults.{Rose}
 use Rattle.mot_base.specs.Files.{Holding}
 use Rattle.mot_base.specs.Sink.{with_more}
@@ -11,6 +11,7 @@ use Rattle.motion_cli.specs.Ending.{Outside, Writes, Ended, Asked, cut_status}
 use Rattle.motion_cli.specs.Outcome.{Kind, Outcome, code_of, memory, usage}
 use Rattle.motion_cli.specs.Outcome.Kind.{report, refusal}
 use Rattle.motion_cli.specs.Settled.{IsUsage, IsDone, IsComplete}
+use Rattle.motion_cli.proofs.ProgramLemmas.{usage_written}
 use Rattle.motion_cli.proofs.SettledLemmas.{IsSettled}
 
 -- The numbers of statuses.
@@ -47,31 +48,31 @@ not_one : (was is : Option Text) (rose : Type 0) (o : Outcome) (status : ℕ) �
 not_one was is rose o status other (inl w) = λ one. other (code_one o.status (sym w.1 ∙ one))
 not_one was is rose o status other (inr w) = λ one. other (cut_one o.kind o.status (sym w.2 ∙ one))
 
-usage_written : (was is : Option Text) (rose : Type 0) (status : ℕ) → Writes was is rose usage status → status ≡ 1
-usage_written was is rose status (inl w) = w.1
-usage_written was is rose status (inr w) = w.2
-
 memory_written : (was is : Option Text) (rose : Type 0) (status : ℕ) → Writes was is rose memory status → status ≡ 11
 memory_written was is rose status (inl w) = w.1
 memory_written was is rose status (inr w) = w.2
 
-asked_other : {R : Type 0} (asks : R → Type 0) (ends : Option Holding → Type 0 → R → Outcome → Type 0) → IsSettled asks ends →
-    (told : Option Holding) (rose : Type 0) (r : R) (o : Outcome) → ends told rose r o ⊎ (o ≡ memory) → o.status ≢ Usage
-asked_other asks ends settled told rose r o (inl end) = (settled.fair told rose r o end).0
-asked_other asks ends settled told rose r o (inr e) = λ u. (let is : Memory ≡ Usage = sym (ap (λ (o : Outcome). o.status) e) ∙ u in cc)
+ran_out_written : (was is : Option Text) (rose : Type 0) (o : Outcome) (status : ℕ) → o ≡ memory → Writes was is rose o status → status ≡ 11
+ran_out_written was is rose o status e written = memory_written was is rose status (subst (λ o. Writes was is rose o status) e written)
+
+nothing_written : (was is : Option Text) (rose : Type 0) (o : Outcome) (status : ℕ) → o ≡ usage → Writes was is rose o status → status ≡ 1
+nothing_written was is rose o status e written = usage_written was is rose status (subst (λ o. Writes was is rose o status) e written)
 
 none_asked : {R : Type 0} (asks : R → Type 0) (ends : Option Holding → Type 0 → R → Outcome → Type 0) → IsSettled asks ends →
     (told : Option Holding) (rose fell : Type 0) (was is : Option Text) (o : Outcome) (status : ℕ) →
     Asked asks (ends told rose) o → Writes was is fell o status → status ≡ 1 → (request : R) → ¬ (asks request)
-none_asked asks ends settled told rose fell was is o status (inl nothing) written one = nothing.0
-none_asked asks ends settled told rose fell was is o status (inr asked) written one =
-    absurd (not_one was is fell o status (asked_other asks ends settled told rose asked.0 o asked.2) written one)
+none_asked asks ends settled told rose fell was is o status (inl ran_out) written one =
+    absurd (let eleven = ran_out_written was is fell o status ran_out written in omega (arith, eleven, one))
+none_asked asks ends settled told rose fell was is o status (inr (inl nothing)) written one = nothing.0
+none_asked asks ends settled told rose fell was is o status (inr (inr (r, asked, end))) written one =
+    absurd (not_one was is fell o status (settled.fair told rose r o end).0 written one)
 
 one_answered : {R : Type 0} (asks : R → Type 0) (ends : R → Outcome → Type 0) (fell : Type 0) (was is : Option Text)
-    (o : Outcome) (status : ℕ) → Asked asks ends o → Writes was is fell o status → ((request : R) → ¬ (asks request)) → status ≡ 1
-one_answered asks ends fell was is o status (inl nothing) written none =
-    usage_written was is fell status (subst (λ o. Writes was is fell o status) nothing.1 written)
-one_answered asks ends fell was is o status (inr asked) written none = absurd (none asked.0 asked.1)
+    (o : Outcome) (status : ℕ) → Asked asks ends o → Writes was is fell o status → ((request : R) → ¬ (asks request)) →
+    (status ≡ 1) ⊎ (status ≡ 11)
+one_answered asks ends fell was is o status (inl ran_out) written none = inr (ran_out_written was is fell o status ran_out written)
+one_answered asks ends fell was is o status (inr (inl nothing)) written none = inl (nothing_written was is fell o status nothing.1 written)
+one_answered asks ends fell was is o status (inr (inr (r, asked, end))) written none = absurd (none r asked)
 
 pub usage_exactly : {R : Type 0} (asks : R → Type 0) (ends : Option Holding → Type 0 → R → Outcome → Type 0) → IsSettled asks ends →
     (before after : Outside) (status : ℕ) →
@@ -101,13 +102,13 @@ zero_answered : {R : Type 0} (asks : R → Type 0) (ends : Option Holding → Ty
     (told : Option Holding) (rose fell : Type 0) (was is : Option Text) (o : Outcome) (status : ℕ) →
     Asked asks (ends told rose) o → Writes was is fell o status → status ≡ 0 →
     (request : R) × asks request × (end : Outcome) × (end.kind ≡ report) × ends told ⊥ request end × (is ≡ with_more was end.text)
-zero_answered asks ends settled told rose fell was is o status (inl nothing) written zero =
-    absurd (let one = usage_written was is fell status (subst (λ o. Writes was is fell o status) nothing.1 written) in omega (arith, one, zero))
-zero_answered asks ends settled told rose fell was is o status (inr (r, asked, inl end)) written zero =
+zero_answered asks ends settled told rose fell was is o status (inl ran_out) written zero =
+    absurd (let eleven = ran_out_written was is fell o status ran_out written in omega (arith, eleven, zero))
+zero_answered asks ends settled told rose fell was is o status (inr (inl nothing)) written zero =
+    absurd (let one = nothing_written was is fell o status nothing.1 written in omega (arith, one, zero))
+zero_answered asks ends settled told rose fell was is o status (inr (inr (r, asked, end))) written zero =
     let whole = whole_written asks ends settled told rose fell was is r o status end written zero in
     (r, asked, o, whole.0, whole.1, whole.2)
-zero_answered asks ends settled told rose fell was is o status (inr (r, asked, inr e)) written zero =
-    absurd (let eleven = memory_written was is fell status (subst (λ o. Writes was is fell o status) e written) in omega (arith, eleven, zero))
 
 pub done_exactly : {R : Type 0} (asks : R → Type 0) (ends : Option Holding → Type 0 → R → Outcome → Type 0) → IsSettled asks ends →
     (before after : Outside) (status : ℕ) →
@@ -128,15 +129,15 @@ led : {R : Type 0} (asks : R → Type 0) (ends : Option Holding → Type 0 → R
     Asked asks (ends (Some held) rose) o → Writes was is fell o status → ¬ rose → ¬ fell →
     (request : R) → asks request → (end : Outcome) → ends (Some held) ⊥ request end →
     ((status ≡ code_of end.status) × (is ≡ with_more was end.text)) ⊎ (status ≡ 11)
-led asks ends settled held rose fell was is o status (inl nothing) written quiet still request asked end leads =
+led asks ends settled held rose fell was is o status (inl ran_out) written quiet still request asked end leads =
+    inr (ran_out_written was is fell o status ran_out written)
+led asks ends settled held rose fell was is o status (inr (inl nothing)) written quiet still request asked end leads =
     absurd (nothing.0 request asked)
-led asks ends settled held rose fell was is o status (inr (r, asks_r, inl came)) written quiet still request asked end leads =
+led asks ends settled held rose fell was is o status (inr (inr (r, asks_r, came))) written quiet still request asked end leads =
     let same = settled.one r request asks_r asked in
     let came_too = subst (λ r. ends (Some held) rose r o) same came in
     let agree = settled.agree held rose request quiet o end came_too leads in
     inl (whole_or_cut was is fell end status still (subst (λ o. Writes was is fell o status) agree written))
-led asks ends settled held rose fell was is o status (inr (r, asks_r, inr e)) written quiet still request asked end leads =
-    inr (memory_written was is fell status (subst (λ o. Writes was is fell o status) e written))
 
 pub complete_exactly : {R : Type 0} (asks : R → Type 0) (ends : Option Holding → Type 0 → R → Outcome → Type 0) → IsSettled asks ends →
     (before after : Outside) (status : ℕ) →

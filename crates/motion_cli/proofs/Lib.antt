@@ -3,7 +3,7 @@ pub mod Built
 mod Dealing
 pub mod Running
 pub mod ReportLemmas
-pub mod StepLemmas
 pub mod ProgramLemmas
 pub mod SettledLemmas
 pub mod AnswerLemmas
+pub mod WordsLemmas

@@ -1,7 +1,6 @@
 -- What the words and the files of a call settle.
-use Rattle.std.proofs.Common.{ℕ, ◌≡◌, ◌≢◌, inl, inr, Bool, List, [], ◌∷◌, Option, Some, None, refl, sym, ap, subst, ◌∙◌, arith}
+use Rattle.std.proofs.Common.{ℕ, ◌≡◌, ◌≢◌, inl, inr, Bool, List, [], Option, Some, None, sym, ap, subst, ◌∙◌, arith}
 use Rattle.std.specs.Prelude.{codes, IsSomeAnd, map, false}
-use Rattle.hex.specs.Hex.{decode_of}
 use Rattle.mot_base.specs.Files.{Holding, IsTooLong}
 use Rattle.share_types.specs.Bits.{number}
 use Rattle.text_lines.specs.Text.{Text}
@@ -28,9 +27,9 @@ use Rattle.motion_cli.specs.Outcome.Kind.{report}
 use Rattle.motion_cli.specs.Refusal.{circuit_cause, values_cause}
 use Rattle.motion_cli.specs.Report.{output_lines, parties_report}
 use Rattle.motion_cli.specs.Run.{is_built}
-use Rattle.motion_cli.specs.Words.{Request, PlainRequest, LocalRequest, IsPlain, IsLocal, AsksFor}
-use Rattle.motion_cli.specs.Words.Request.{plain, local}
-use Rattle.motion_cli.proofs.ProgramLemmas.{other_name, same_rest}
+use Rattle.cli_words.specs.Request.{Request, PlainRequest, LocalRequest, plain, needs, deal, local}
+use Rattle.motion_cli.specs.Words.{AsksFor, AsksPlain, AsksLocal}
+use Rattle.motion_cli.proofs.WordsLemmas.{asked_once, plain_once, local_once}
 use Rattle.motion_cli.specs.Steps.{Fault, IsContent, IsUnloaded, Loads, ReadsAs, Unless}
 
 -- Two ways to an outcome lead to the same one.
@@ -232,44 +231,14 @@ pub record IsSettled {R : Type 0} (asks : R → Type 0) (ends : Option Holding �
   pub agree : (held : Holding) (rose : Type 0) (r : R) → ¬ rose → Agree (ends (Some held) rose r) (ends (Some held) ⊥ r)
   pub fair : (told : Option Holding) (rose : Type 0) (r : R) → Fair (ends told rose r) (ends told ⊥ r)
 
-plain_once : (words : List (List ℕ)) (r s : PlainRequest) → IsPlain words r → IsPlain words s → r ≡ s
-plain_once words r s a b =
-    let both : r.circuit ∷ r.values ∷ [] ≡ s.circuit ∷ s.values ∷ [] = sym a.exactly ∙ b.exactly in
-    let circuit : r.circuit ≡ s.circuit = cc in
-    let values : r.values ≡ s.values = cc in
-    ap (λ (c : List ℕ). record { circuit = c; values = r.values }) circuit
-    ∙ ap (λ (v : List ℕ). record { circuit = s.circuit; values = v }) values
-
-local_once : (words : List (List ℕ)) (r s : LocalRequest) → IsLocal words r → IsLocal words s → r ≡ s
-local_once words r s a b =
-    let both : r.circuit ∷ r.values ∷ a.digits ∷ [] ≡ s.circuit ∷ s.values ∷ b.digits ∷ [] = sym a.exactly ∙ b.exactly in
-    let circuit : r.circuit ≡ s.circuit = cc in
-    let values : r.values ≡ s.values = cc in
-    let digits : a.digits ≡ b.digits = cc in
-    let seeds = sym a.seed.1 ∙ (ap decode_of digits ∙ b.seed.1) in
-    let seed : r.seed ≡ s.seed = cc in
-    ap (λ (c : List ℕ). record { circuit = c; values = r.values; seed = r.seed }) circuit
-    ∙ (ap (λ (v : List ℕ). record { circuit = s.circuit; values = v; seed = r.seed }) values
-    ∙ ap (λ (d : List ℕ). record { circuit = s.circuit; values = s.values; seed = d }) seed)
-
-asked_once : (words : List (List ℕ)) (r s : Request) → AsksFor words r → AsksFor words s → r ≡ s
-asked_once words (plain r) (plain s) a b =
-    let rest = same_rest words a.0 b.0 (codes "plain") (codes "plain") a.1 b.1 in
-    ap plain (plain_once a.0 r s a.2 (subst (λ ws. IsPlain ws s) rest b.2))
-asked_once words (local r) (local s) a b =
-    let rest = same_rest words a.0 b.0 (codes "local") (codes "local") a.1 b.1 in
-    ap local (local_once a.0 r s a.2 (subst (λ ws. IsLocal ws s) rest b.2))
-asked_once words (plain r) (local s) a b = absurd (other_name words b.0 a.0 (codes "local") b.1 refl a.1)
-asked_once words (local r) (plain s) a b = absurd (other_name words a.0 b.0 (codes "local") a.1 refl b.1)
-
-pub plain_settled : (words : List (List ℕ)) → IsSettled (IsPlain words) PlainEnds
+pub plain_settled : (words : List (List ℕ)) → IsSettled (AsksPlain words) PlainEnds
 plain_settled words = record {
   one = plain_once words;
   agree = λ held rose r quiet. both_agree held rose r.circuit r.values (PlainReads r) (PlainReads r) quiet (plain_agree r);
   fair = λ told rose r. both_fair told rose r.circuit r.values (PlainReads r) (PlainReads r) (plain_fair r);
 }
 
-pub local_settled : (words : List (List ℕ)) → IsSettled (IsLocal words) LocalEnds
+pub local_settled : (words : List (List ℕ)) → IsSettled (AsksLocal words) LocalEnds
 local_settled words = record {
   one = local_once words;
   agree = λ held rose r quiet. both_agree held rose r.circuit r.values (LocalReads r) (LocalReads r) quiet (local_agree r);
@@ -279,10 +248,14 @@ local_settled words = record {
 request_agree : (held : Holding) (rose : Type 0) (r : Request) → ¬ rose → Agree (RequestEnds (Some held) rose r) (RequestEnds (Some held) ⊥ r)
 request_agree held rose (plain r) quiet = (plain_settled []).agree held rose r quiet
 request_agree held rose (local r) quiet = (local_settled []).agree held rose r quiet
+request_agree held rose (needs r) quiet = λ x y m n. absurd m
+request_agree held rose (deal r) quiet = λ x y m n. absurd m
 
 request_fair : (told : Option Holding) (rose : Type 0) (r : Request) → Fair (RequestEnds told rose r) (RequestEnds told ⊥ r)
 request_fair told rose (plain r) = (plain_settled []).fair told rose r
 request_fair told rose (local r) = (local_settled []).fair told rose r
+request_fair told rose (needs r) = λ x m. absurd m
+request_fair told rose (deal r) = λ x m. absurd m
 
 pub request_settled : (words : List (List ℕ)) → IsSettled (AsksFor words) RequestEnds
 request_settled words = record { one = asked_once words; agree = request_agree; fair = request_fair }

@@ -1,6 +1,7 @@
 -- What each command comes to: one composition of steps for each.
 use Rattle.std.specs.Prelude.{◌≡◌, Bool, false, List, codes, Option, None}
 use Rattle.mot_base.specs.Files.{Holding}
+use Rattle.cli_words.specs.Request.{Request, PlainRequest, LocalRequest, plain, needs, deal, local}
 use Rattle.circuit_values.specs.declared.cause.ValuesCause.{ValuesCause}
 use Rattle.circuit_values.specs.Table.{Told}
 use Rattle.circuit_values.specs.Values as values
@@ -16,8 +17,6 @@ use Rattle.motion_cli.specs.Refusal.{circuit_cause, values_cause}
 use Rattle.motion_cli.specs.Report.{output_lines, parties_report}
 use Rattle.motion_cli.specs.Run.{is_built}
 use Rattle.motion_cli.specs.Steps.{Fault, Loads, ReadsAs, Unless}
-use Rattle.motion_cli.specs.Words.{Request, PlainRequest, LocalRequest}
-use Rattle.motion_cli.specs.Words.Request.{plain, local}
 
 -- the text of a file is read as a circuit
 abbrev pub ReadsCircuit : Text → Text → (Circuit → Outcome → Type 0) → Outcome → Type 0
@@ -44,6 +43,10 @@ abbrev pub LoadsBoth : Option Holding → Type 0 → Text → Text → (Text →
 LoadsBoth told rose circuit values next =
     Loads told rose circuit (λ c. Loads told rose values (λ v. next c v))
 
+-- one of both files is not loaded
+abbrev pub AreUnloaded : Option Holding → Type 0 → Text → Text → Outcome → Type 0
+AreUnloaded told rose circuit values = LoadsBoth told rose circuit values (λ c v end. ⊥)
+
 -- `plain`, once both files are loaded
 abbrev pub PlainReads : PlainRequest → Text → Text → Outcome → Type 0
 PlainReads request circuit values =
@@ -67,7 +70,9 @@ LocalReads request circuit values =
 abbrev pub LocalEnds : Option Holding → Type 0 → LocalRequest → Outcome → Type 0
 LocalEnds told rose request = LoadsBoth told rose request.circuit request.values (LocalReads request)
 
--- what a request comes to
+-- what a request comes to, of a command that is run
 abbrev pub RequestEnds : Option Holding → Type 0 → Request → Outcome → Type 0
 RequestEnds told rose (plain request) = PlainEnds told rose request
 RequestEnds told rose (local request) = LocalEnds told rose request
+RequestEnds told rose (needs request) = λ end. ⊥
+RequestEnds told rose (deal request) = λ end. ⊥

@@ -1,8 +1,10 @@
 -- How a call ends: what it comes to, what is written of it, and what it leaves.
-use Rattle.std.specs.Prelude.{ℕ, ◌≡◌, ◌≢◌, ◌⊎◌, List, [], ◌∷◌, ◌++◌, Option, Some, None, if◌then◌else◌, bytes_eq}
+use Rattle.std.specs.Prelude.{ℕ, ◌≡◌, ◌≢◌, ◌⊎◌, List, [], ◌∷◌, ◌++◌, Option, Some, None, Result, Ok, Err, if◌then◌else◌, bytes_eq}
 use Rattle.mot_base.specs.Faults.{Rose}
 use Rattle.mot_base.specs.Files.{Holding}
 use Rattle.mot_base.specs.Sink.{with_more}
+use Rattle.cli_words.specs.declared.read.WordsError.{WordsError}
+use Rattle.cli_words.specs.declared.read.WordsError.TheVariants as words
 use Rattle.text_lines.specs.Text.{Text}
 use Rattle.motion_cli.specs.declared.status.Status.{Status}
 use Rattle.motion_cli.specs.declared.status.Status.TheVariants.{Usage, Write}
@@ -67,12 +69,21 @@ pub record Ended (ends : Outcome → Type 0) (before after : Outside) (status : 
       Writes before.appended after.appended (Rose before.out_faults after.out_faults) outcome status
   pub left : Leaves before.held after.held outcome
 
--- words that ask for nothing end with the usage; words that ask for something end as that ends, or with want
--- of memory
+-- what was read of words comes to this: what they ask for or want of memory there, the usage where they ask
+-- for nothing, or want of memory while they were read
+abbrev pub ReadEnds : {W R : Type 0} →
+    (W → R) → (R → Outcome → Type 0) → Result W WordsError → Outcome → Type 0
+ReadEnds request_of ends (Ok words) end = ends (request_of words) end ⊎ (end ≡ memory)
+ReadEnds request_of ends (Err words.Usage) end = end ≡ usage
+ReadEnds request_of ends (Err words.NoMemory) end = end ≡ memory
+
+-- memory runs out; or words that ask for nothing end with the usage, and words that ask for something end as
+-- that ends
 abbrev pub Asked : {R : Type 0} → (R → Type 0) → (R → Outcome → Type 0) → Outcome → Type 0
 Asked {R} asks ends end =
-    (((request : R) → ¬ (asks request)) × (end ≡ usage))
-    ⊎ ((request : R) × asks request × (ends request end ⊎ (end ≡ memory)))
+    (end ≡ memory)
+    ⊎ ((((request : R) → ¬ (asks request)) × (end ≡ usage))
+    ⊎ ((request : R) × asks request × ends request end))
 
 -- What a request leads to: from what files are told to hold, and from whether their count of faults rose, to
 -- an outcome.

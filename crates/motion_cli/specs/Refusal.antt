@@ -6,6 +6,8 @@ use Rattle.circuit_values.specs.declared.cause.ValuesCause.{ValuesCause}
 use Rattle.circuit_values.specs.declared.cause.ValuesCause.TheVariants as values
 use Rattle.mixed_circuit.specs.declared.cause.CircuitCause.{CircuitCause}
 use Rattle.mixed_circuit.specs.declared.cause.CircuitCause.TheVariants as circuit
+use Rattle.cli_words.specs.declared.read.WordsError.{WordsError}
+use Rattle.cli_words.specs.declared.read.WordsError.TheVariants as words
 use Rattle.motion_cli.specs.declared.status.Status.{Status}
 use Rattle.motion_cli.specs.declared.status.Status.TheVariants as status
 use Rattle.motion_cli.specs.declared.refusal.FileCause.{FileCause}
@@ -65,3 +67,8 @@ outcome_of given = refused (status_of given) (line_of given)
 abbrev pub came_to : Result (String Global) Refusal → Outcome
 came_to (Ok report) = reported (string_bytes report)
 came_to (Err given) = outcome_of given
+
+-- the refusal of words that were not read
+abbrev pub read_refused : WordsError → Refusal
+read_refused words.Usage = Usage
+read_refused words.NoMemory = Memory

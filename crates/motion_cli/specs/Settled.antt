@@ -1,5 +1,5 @@
 -- How words and files settle the way in which a call ends.
-use Rattle.std.specs.Prelude.{ℕ, ◌≡◌, ◌↔◌, ◌⊎◌, Option, Some}
+use Rattle.std.specs.Prelude.{ℕ, ◌≡◌, ◌⊎◌, Some}
 use Rattle.mot_base.specs.Faults.{Rose}
 use Rattle.mot_base.specs.Files.{Holding}
 use Rattle.mot_base.specs.Sink.{with_more}
@@ -7,9 +7,11 @@ use Rattle.motion_cli.specs.Ending.{Outside, Leading}
 use Rattle.motion_cli.specs.Outcome.{Outcome, code_of}
 use Rattle.motion_cli.specs.Outcome.Kind.{report}
 
--- a call ends with status 1 exactly where its words ask for nothing
+-- a call ends with status 1 exactly where its words ask for nothing, want of memory aside
 abbrev pub IsUsage : {R : Type 0} → (R → Type 0) → ℕ → Type 0
-IsUsage {R} asks status = (status ≡ 1) ↔ ((request : R) → ¬ (asks request))
+IsUsage {R} asks status =
+    (status ≡ 1 → (request : R) → ¬ (asks request))
+    × (((request : R) → ¬ (asks request)) → (status ≡ 1) ⊎ (status ≡ 11))
 
 -- at status 0 the report was appended to which the words lead without any fault, and nothing else
 abbrev pub IsDone : {R : Type 0} → (R → Type 0) → Leading R → Outside → Outside → ℕ → Type 0

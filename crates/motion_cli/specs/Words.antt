@@ -1,84 +1,44 @@
--- What the words after the program's name ask for. A word is a text, seen as the list of its bytes.
-use Rattle.std.specs.Prelude.{◌≡◌, ◌≢◌, ◌<◌, ℕ, ◌==◌, if◌then◌else◌, List, [], ◌∷◌, length, slice_get, codes, Option, Some, None, Ok, map, String, string_bytes}
-use Rattle.std.specs.Str.{byte}
-use Rattle.std.specs.Result.{result_ok}
-use Rattle.hex.specs.Hex.{decode_of}
-use Rattle.motion_cli.specs.declared.words.Command.{Command}
-use Rattle.motion_cli.specs.declared.words.Command.TheVariants.{Plain, Local}
-use Rattle.motion_cli.specs.declared.words.PlainWords.{PlainWords}
-use Rattle.motion_cli.specs.declared.words.LocalWords.{LocalWords}
+-- What words ask for, by the grammar of all commands over those commands and options that this program runs.
+use Rattle.std.specs.Prelude.{◌≡◌, List, [], ◌∷◌, map}
+use Rattle.cli_words.specs.Table.{row}
+use Rattle.cli_words.specs.Grammar.{Asks, IsNamed}
+use Rattle.cli_words.specs.Request.{Request, PlainRequest, LocalRequest, plain, needs, deal, local}
+use Rattle.cli_words.specs.declared.table.Command.{Command}
+use Rattle.cli_words.specs.declared.table.Command.TheVariants.{Plain, Local}
+use Rattle.cli_words.specs.declared.table.OptionName.{OptionName}
+use Rattle.cli_words.specs.declared.table.Offer.{Offer}
+use Rattle.text_lines.specs.Text.{Text}
 
--- the words as texts
-abbrev pub texts : {A : Type 0} → List (String A) → List (List ℕ)
-texts words = map string_bytes words
+-- the commands that are run, each with those of its options that are
+abbrev pub run_commands : List (Command × List OptionName)
+run_commands = (Plain, []) ∷ (Local, []) ∷ []
 
--- a plain evaluation: the name of the circuit, and the name of the values of its inputs
-pub record PlainRequest : Type 0 where
-  pub circuit : List ℕ
-  pub values : List ℕ
+abbrev pub command_offered : Offer → Command × List OptionName
+command_offered offer = (offer.command, offer.options.now)
 
--- a run of all parties in one process: the name of the circuit, the name of the values of its inputs,
--- and the bytes of the seed
-pub record LocalRequest : Type 0 where
-  pub circuit : List ℕ
-  pub values : List ℕ
-  pub seed : List ℕ
+-- these are offered to the reader of words
+abbrev pub AreRun : List Offer → Type 0
+AreRun offers = map command_offered offers ≡ run_commands
 
--- what a whole line of words asks for
-pub data Request : Type 0 where
-  plain : PlainRequest → Request
-  local : LocalRequest → Request
+-- the words after the program's name ask for this
+abbrev pub AsksFor : List Text → Request → Type 0
+AsksFor words request = (offers : List Offer) × AreRun offers × Asks offers words request
 
--- The grammar.
+-- the words after `plain` ask for this
+abbrev pub AsksPlain : List Text → PlainRequest → Type 0
+AsksPlain words request = AsksFor ((row Plain).text ∷ words) (plain request)
 
--- the word is longer than one byte and begins with `-`: such a word is no name, but an option
-abbrev pub IsOption : List ℕ → Type 0
-IsOption word = (1 < length word) × (slice_get word 0 ≡ Some (byte "-"))
+-- the words after `local` ask for this
+abbrev pub AsksLocal : List Text → LocalRequest → Type 0
+AsksLocal words request = AsksFor ((row Local).text ∷ words) (local request)
 
--- the word is a name: it is not empty, and no option
-abbrev pub IsName : List ℕ → Type 0
-IsName word = (word ≢ []) × ¬ (IsOption word)
+-- the words after the program's name begin with the name of a command that is run
+abbrev pub NamesCommand : List Text → Type 0
+NamesCommand words = (offers : List Offer) × AreRun offers × IsNamed offers words
 
--- the word is 64 hexadecimal digits of either case, which stand for these bytes
-abbrev pub IsSeed : List ℕ → List ℕ → Type 0
-IsSeed word seed = (length word ≡ 64) × (decode_of word ≡ Ok seed)
-
--- the words after `plain` ask for this: they are exactly the names of a circuit and of values
-pub record IsPlain (words : List (List ℕ)) (request : PlainRequest) : Type 0 where
-  pub exactly : words ≡ request.circuit ∷ request.values ∷ []
-  pub circuit : IsName request.circuit
-  pub values : IsName request.values
-
--- the words after `local` ask for this run: they are exactly the names of a circuit and of values, and
--- a seed
-pub record IsLocal (words : List (List ℕ)) (request : LocalRequest) : Type 0 where
-  pub digits : List ℕ
-  pub exactly : words ≡ request.circuit ∷ request.values ∷ digits ∷ []
-  pub circuit : IsName request.circuit
-  pub values : IsName request.values
-  pub seed : IsSeed digits request.seed
-
--- the words after the program's name ask for this: the first is the name of the command, and the others
--- are the command's own
-abbrev pub AsksFor : List (List ℕ) → Request → Type 0
-AsksFor words (plain request) =
-    (rest : List (List ℕ)) × (words ≡ codes "plain" ∷ rest) × IsPlain rest request
-AsksFor words (local request) =
-    (rest : List (List ℕ)) × (words ≡ codes "local" ∷ rest) × IsLocal rest request
-
--- the bytes of a seed, if the word is one
-abbrev pub seed_of : List ℕ → Option (List ℕ)
-seed_of word = if length word == 64 then result_ok (decode_of word) else None
-
--- What the code keeps of the words.
-
-abbrev pub plain_request : PlainWords → PlainRequest
-plain_request words = record { circuit = words.circuit.now; values = words.values.now }
-
-abbrev pub local_request : LocalWords → LocalRequest
-local_request words =
-    record { circuit = words.circuit.now; values = words.values.now; seed = words.seed.0 }
-
-abbrev pub request_of : Command → Request
-request_of (Plain words) = plain (plain_request words)
-request_of (Local words) = local (local_request words)
+-- the command of the request is run
+abbrev pub IsRun : Request → Type 0
+IsRun (plain request) = Unit {0}
+IsRun (local request) = Unit {0}
+IsRun (needs request) = ⊥
+IsRun (deal request) = ⊥

@@ -15,14 +15,14 @@ ghost use Rattle.motion_cli.specs.Refusal.{outcome_of, came_to, circuit_cause, v
 ghost use Rattle.motion_cli.specs.Report.{output_lines, parties_report};
 ghost use Rattle.motion_cli.specs.Run.{is_built, word_of_shares};
 ghost use Rattle.motion_cli.specs.Steps.{Fault};
-ghost use Rattle.motion_cli.specs.Words.{plain_request, local_request};
+ghost use Rattle.cli_words.specs.Request.{plain_request, local_request};
 
-use crate::load::load;
+use crate::load::load_both;
 use crate::refusal::Refusal;
 use crate::report::{Notation, report_all, report_parties};
 use crate::run::{Shares, is_built, run_on_shares};
-use crate::words::{LocalWords, PlainWords};
 use circuit_values::{Values, ValuesError, read_values};
+use cli_words::{LocalWords, PlainWords};
 use mixed_circuit::{CircuitError, Mixed, plain, read_mixed};
 use mot_base::{Files, NoMemory};
 use std::alloc::Global;
@@ -30,34 +30,33 @@ use std::alloc::Global;
 /// The report of `plain`: each output of the plain evaluation.
 pub(crate) fn plain_report<'a, F: Files>(
     alloc: Global,
-    plain: &PlainWords<'a>,
+    words: &'a PlainWords,
     files: &mut F,
 ) -> Result<String, Refusal<'a>>
     ensures came { PlainEnds (F.holds files.old) (Rose (F.faults files.old) (F.faults files.new))
-        (plain_request plain.entry.now) (came_to result)
+        (plain_request words.entry.now) (came_to result)
         ⊎ (came_to result ≡ memory) }
     ensures same { F.holds files.new ≡ F.holds files.old }
     ensures never_falls { F.faults files.old ≤ F.faults files.new }
 {
-    let circuit = load(alloc, files, plain.circuit)?;
-    let values = load(alloc, files, plain.values)?;
-    plain_of_texts(alloc, plain, circuit.as_slice(), values.as_slice())
+    let (circuit, values) = load_both(alloc, files, words.circuit.as_str(), words.values.as_str())?;
+    plain_of_texts(alloc, words, circuit, values)
 }
 
-/// The same, once both files are loaded.
+/// The same, once both files are loaded. Each text is dropped as soon as it is read.
 fn plain_of_texts<'a>(
     alloc: Global,
-    words: &PlainWords<'a>,
-    circuit: &[u8],
-    values: &[u8],
+    words: &'a PlainWords,
+    circuit: Vec<u8>,
+    values: Vec<u8>,
 ) -> Result<String, Refusal<'a>>
-    requires circuit { length circuit.now ≤ most_file_bytes }
-    requires values { length values.now ≤ most_file_bytes }
-    ensures { PlainReads (plain_request words.entry.now) circuit.now values.now (came_to result)
+    requires circuit { length circuit.items ≤ most_file_bytes }
+    requires values { length values.items ≤ most_file_bytes }
+    ensures { PlainReads (plain_request words.entry.now) circuit.items values.items (came_to result)
         ⊎ (came_to result ≡ memory) }
 {
-    let circuit = circuit_of(alloc, words.circuit, circuit)?;
-    let values = values_of(alloc, words.values, &circuit, values)?;
+    let circuit = circuit_of(alloc, words.circuit.as_str(), circuit)?;
+    let values = values_of(alloc, words.values.as_str(), &circuit, values)?;
     let outputs = plain(alloc, &circuit, &values)?;
     Ok(report_all(alloc, Notation::Decimal, &outputs)?)
 }
@@ -65,46 +64,45 @@ fn plain_of_texts<'a>(
 /// The report of `local`: for each party, the outputs that it is told.
 pub(crate) fn local_report<'a, F: Files>(
     alloc: Global,
-    local: &LocalWords<'a>,
+    words: &'a LocalWords,
     files: &mut F,
 ) -> Result<String, Refusal<'a>>
     ensures came { LocalEnds (F.holds files.old) (Rose (F.faults files.old) (F.faults files.new))
-        (local_request local.entry.now) (came_to result)
+        (local_request words.entry.now) (came_to result)
         ⊎ (came_to result ≡ memory) }
     ensures same { F.holds files.new ≡ F.holds files.old }
     ensures never_falls { F.faults files.old ≤ F.faults files.new }
 {
-    let circuit = load(alloc, files, local.circuit)?;
-    let values = load(alloc, files, local.values)?;
-    local_of_texts(alloc, local, circuit.as_slice(), values.as_slice())
+    let (circuit, values) = load_both(alloc, files, words.circuit.as_str(), words.values.as_str())?;
+    local_of_texts(alloc, words, circuit, values)
 }
 
-/// The same, once both files are loaded.
+/// The same, once both files are loaded. Each text is dropped as soon as it is read.
 fn local_of_texts<'a>(
     alloc: Global,
-    words: &LocalWords<'a>,
-    circuit: &[u8],
-    values: &[u8],
+    words: &'a LocalWords,
+    circuit: Vec<u8>,
+    values: Vec<u8>,
 ) -> Result<String, Refusal<'a>>
-    requires circuit { length circuit.now ≤ most_file_bytes }
-    requires values { length values.now ≤ most_file_bytes }
-    ensures { LocalReads (local_request words.entry.now) circuit.now values.now (came_to result)
+    requires circuit { length circuit.items ≤ most_file_bytes }
+    requires values { length values.items ≤ most_file_bytes }
+    ensures { LocalReads (local_request words.entry.now) circuit.items values.items (came_to result)
         ⊎ (came_to result ≡ memory) }
 {
-    let circuit = circuit_of(alloc, words.circuit, circuit)?;
+    let circuit = circuit_of(alloc, words.circuit.as_str(), circuit)?;
     if !is_built(&circuit) {
         return Err(Refusal::NotBuilt {
-            name: words.circuit,
+            name: words.circuit.as_str(),
         });
     }
-    let values = values_of(alloc, words.values, &circuit, values)?;
+    let values = values_of(alloc, words.values.as_str(), &circuit, values)?;
     Ok(run_and_report(alloc, words, &circuit, &values)?)
 }
 
 /// Runs a circuit on shares, and reports its outputs.
 fn run_and_report(
     alloc: Global,
-    words: &LocalWords<'_>,
+    words: &LocalWords,
     circuit: &Mixed,
     values: &Values,
 ) -> Result<String, NoMemory>
@@ -132,42 +130,42 @@ fn words_of(alloc: Global, shares: &[Shares]) -> Result<Vec<u64>, NoMemory>
     Ok(words)
 }
 
-/// Reads the text of a circuit's file.
-fn circuit_of<'a>(alloc: Global, name: &'a str, text: &[u8]) -> Result<Mixed, Refusal<'a>>
-    requires { length text.now ≤ most_file_bytes }
-    ensures ok { IfOk result (λ circuit. Reads text.now circuit) }
+/// Reads the text of a circuit's file, and drops it.
+fn circuit_of<'a>(alloc: Global, name: &'a str, text: Vec<u8>) -> Result<Mixed, Refusal<'a>>
+    requires { length text.items ≤ most_file_bytes }
+    ensures ok { IfOk result (λ circuit. Reads text.items circuit) }
     ensures err { IfErr result (λ refusal.
-        ((fault : Fault CircuitCause) × FirstFault text.now fault.line fault.cause
+        ((fault : Fault CircuitCause) × FirstFault text.items fault.line fault.cause
         × (outcome_of refusal
         ≡ circuit_refused name.entry.now (at_line fault.line (circuit_cause fault.cause))))
         ⊎ (outcome_of refusal ≡ memory)) }
 {
-    match read_mixed(alloc, text) {
+    match read_mixed(alloc, text.as_slice()) {
         Ok(circuit) => Ok(circuit),
         Err(CircuitError::At { line, cause }) => Err(Refusal::Circuit { name, line, cause }),
         Err(CircuitError::NoMemory) => Err(Refusal::Memory),
     }
 }
 
-/// Reads the text of the file of the values of a circuit's inputs.
+/// Reads the text of the file of the values of a circuit's inputs, and drops it.
 fn values_of<'a>(
     alloc: Global,
     name: &'a str,
     circuit: &Mixed,
-    text: &[u8],
+    text: Vec<u8>,
 ) -> Result<Values, Refusal<'a>>
-    requires { length text.now ≤ most_file_bytes }
-    ensures ok { IfOk result (λ read. ReadsValues (inputs_of circuit.now.statements) None text.now read) }
+    requires { length text.items ≤ most_file_bytes }
+    ensures ok { IfOk result (λ read. ReadsValues (inputs_of circuit.now.statements) None text.items read) }
     ensures widths { IfOk result (λ read. HaveWidths None (inputs_of circuit.now.statements) read) }
     ensures err { IfErr result (λ refusal.
         ((fault : Fault ValuesCause)
-        × values.FirstFault (inputs_of circuit.now.statements) None text.now fault.line fault.cause
+        × values.FirstFault (inputs_of circuit.now.statements) None text.items fault.line fault.cause
         × (outcome_of refusal
         ≡ values_refused name.entry.now (at_line fault.line (values_cause fault.cause))))
         ⊎ (outcome_of refusal ≡ memory)) }
 {
     let inputs = circuit.inputs(alloc)?;
-    match read_values(alloc, text, &inputs, None) {
+    match read_values(alloc, text.as_slice(), &inputs, None) {
         Ok(values) => Ok(values),
         Err(ValuesError::At { line, cause }) => Err(Refusal::Values { name, line, cause }),
         Err(ValuesError::NoMemory) => Err(Refusal::Memory),

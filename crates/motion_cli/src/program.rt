@@ -1,17 +1,22 @@
 //! What the program does with the words after its name.
 
-ghost use Rattle.std.specs.Prelude.{◌≡◌, ◌≤◌, ◌⊎◌};
+ghost use Rattle.std.specs.Prelude.{◌≡◌, ◌≤◌, IfOk};
 ghost use Rattle.mot_base.specs.Faults.{Rose};
+ghost use Rattle.cli_words.specs.Grammar.{texts};
+ghost use Rattle.cli_words.specs.Request.{request_of, plain_request, local_request};
 ghost use Rattle.motion_cli.specs.Commands.{RequestEnds, PlainEnds, LocalEnds};
-ghost use Rattle.motion_cli.specs.Ending.{Asked, EndsAs, outside};
+ghost use Rattle.motion_cli.specs.Ending.{ReadEnds, EndsAs, outside};
 ghost use Rattle.motion_cli.specs.Refusal.{came_to};
 ghost use Rattle.motion_cli.specs.Settled.{IsUsage, IsDone, IsComplete};
-ghost use Rattle.motion_cli.specs.Words.{AsksFor, IsPlain, IsLocal, texts};
+ghost use Rattle.motion_cli.specs.Words.{AsksFor, AsksPlain, AsksLocal, NamesCommand, IsRun};
 
 use crate::commands::{local_report, plain_report};
 use crate::end::end;
+use crate::offers::offers;
 use crate::refusal::Refusal;
-use crate::words::{Command, read_command, read_local, read_plain};
+use cli_words::{
+    CommandWords, LocalWords, PlainWords, WordsError, read_local, read_plain, read_words,
+};
 use mot_base::{Files, Sink};
 use std::alloc::Global;
 
@@ -21,6 +26,7 @@ pub fn motion<F: Files, S: Sink>(alloc: Global, words: &[String], files: &mut F,
         (outside (F.holds files.old) (F.faults files.old) (S.appended out.old) (S.faults out.old))
         (outside (F.holds files.new) (F.faults files.new) (S.appended out.new) (S.faults out.new)) result }
     ensures usage { IsUsage (AsksFor (texts words.entry.now)) result }
+    ensures unnamed { ¬ (NamesCommand (texts words.entry.now)) → result ≡ 1 }
     ensures done { IsDone (AsksFor (texts words.entry.now)) RequestEnds
         (outside (F.holds files.old) (F.faults files.old) (S.appended out.old) (S.faults out.old))
         (outside (F.holds files.new) (F.faults files.new) (S.appended out.new) (S.faults out.new)) result }
@@ -31,26 +37,29 @@ pub fn motion<F: Files, S: Sink>(alloc: Global, words: &[String], files: &mut F,
     ensures files_never_fall { F.faults files.old ≤ F.faults files.new }
     ensures out_never_falls { S.faults out.old ≤ S.faults out.new }
 {
-    let outcome = run(alloc, words, files);
+    let read = read_words(alloc, offers(), words);
+    let outcome = run(alloc, &read, files);
     end(alloc, out, outcome)
 }
 
-/// What the words after the program's name come to.
+/// What comes of the words after the program's name, as they were read.
 fn run<'a, F: Files>(
     alloc: Global,
-    words: &'a [String],
+    read: &'a Result<CommandWords, WordsError>,
     files: &mut F,
 ) -> Result<String, Refusal<'a>>
-    ensures came { Asked (AsksFor (texts words.entry.now))
+    requires { IfOk read.now (λ words. IsRun (request_of words)) }
+    ensures came { ReadEnds request_of
         (RequestEnds (F.holds files.old) (Rose (F.faults files.old) (F.faults files.new)))
-        (came_to result) }
+        read.entry.now (came_to result) }
     ensures same { F.holds files.new ≡ F.holds files.old }
     ensures never_falls { F.faults files.old ≤ F.faults files.new }
 {
-    match read_command(words) {
-        Some(Command::Plain(words)) => plain_report(alloc, &words, files),
-        Some(Command::Local(words)) => local_report(alloc, &words, files),
-        None => Err(Refusal::Usage),
+    match read {
+        Ok(CommandWords::Plain(words)) => plain_report(alloc, words, files),
+        Ok(CommandWords::Local(words)) => local_report(alloc, words, files),
+        Ok(CommandWords::Needs(_) | CommandWords::Deal(_)) => unreachable!(),
+        Err(error) => Err(Refusal::from(*error)),
     }
 }
 
@@ -61,39 +70,40 @@ pub fn plain_command<F: Files, S: Sink>(
     files: &mut F,
     out: &mut S,
 ) -> u8
-    ensures ended { EndsAs (IsPlain (texts words.entry.now)) PlainEnds
+    ensures ended { EndsAs (AsksPlain (texts words.entry.now)) PlainEnds
         (outside (F.holds files.old) (F.faults files.old) (S.appended out.old) (S.faults out.old))
         (outside (F.holds files.new) (F.faults files.new) (S.appended out.new) (S.faults out.new)) result }
-    ensures usage { IsUsage (IsPlain (texts words.entry.now)) result }
-    ensures done { IsDone (IsPlain (texts words.entry.now)) PlainEnds
+    ensures usage { IsUsage (AsksPlain (texts words.entry.now)) result }
+    ensures done { IsDone (AsksPlain (texts words.entry.now)) PlainEnds
         (outside (F.holds files.old) (F.faults files.old) (S.appended out.old) (S.faults out.old))
         (outside (F.holds files.new) (F.faults files.new) (S.appended out.new) (S.faults out.new)) result }
-    ensures complete { IsComplete (IsPlain (texts words.entry.now)) PlainEnds
+    ensures complete { IsComplete (AsksPlain (texts words.entry.now)) PlainEnds
         (outside (F.holds files.old) (F.faults files.old) (S.appended out.old) (S.faults out.old))
         (outside (F.holds files.new) (F.faults files.new) (S.appended out.new) (S.faults out.new)) result }
     ensures same { F.holds files.new ≡ F.holds files.old }
     ensures files_never_fall { F.faults files.old ≤ F.faults files.new }
     ensures out_never_falls { S.faults out.old ≤ S.faults out.new }
 {
-    let outcome = run_plain(alloc, words, files);
+    let read = read_plain(alloc, offers(), words);
+    let outcome = run_plain(alloc, &read, files);
     end(alloc, out, outcome)
 }
 
-/// What the words after `plain` come to.
+/// What comes of the words after `plain`, as they were read.
 fn run_plain<'a, F: Files>(
     alloc: Global,
-    words: &'a [String],
+    read: &'a Result<PlainWords, WordsError>,
     files: &mut F,
 ) -> Result<String, Refusal<'a>>
-    ensures came { Asked (IsPlain (texts words.entry.now))
+    ensures came { ReadEnds plain_request
         (PlainEnds (F.holds files.old) (Rose (F.faults files.old) (F.faults files.new)))
-        (came_to result) }
+        read.entry.now (came_to result) }
     ensures same { F.holds files.new ≡ F.holds files.old }
     ensures never_falls { F.faults files.old ≤ F.faults files.new }
 {
-    match read_plain(words) {
-        Some(words) => plain_report(alloc, &words, files),
-        None => Err(Refusal::Usage),
+    match read {
+        Ok(words) => plain_report(alloc, words, files),
+        Err(error) => Err(Refusal::from(*error)),
     }
 }
 
@@ -104,38 +114,39 @@ pub fn local_command<F: Files, S: Sink>(
     files: &mut F,
     out: &mut S,
 ) -> u8
-    ensures ended { EndsAs (IsLocal (texts words.entry.now)) LocalEnds
+    ensures ended { EndsAs (AsksLocal (texts words.entry.now)) LocalEnds
         (outside (F.holds files.old) (F.faults files.old) (S.appended out.old) (S.faults out.old))
         (outside (F.holds files.new) (F.faults files.new) (S.appended out.new) (S.faults out.new)) result }
-    ensures usage { IsUsage (IsLocal (texts words.entry.now)) result }
-    ensures done { IsDone (IsLocal (texts words.entry.now)) LocalEnds
+    ensures usage { IsUsage (AsksLocal (texts words.entry.now)) result }
+    ensures done { IsDone (AsksLocal (texts words.entry.now)) LocalEnds
         (outside (F.holds files.old) (F.faults files.old) (S.appended out.old) (S.faults out.old))
         (outside (F.holds files.new) (F.faults files.new) (S.appended out.new) (S.faults out.new)) result }
-    ensures complete { IsComplete (IsLocal (texts words.entry.now)) LocalEnds
+    ensures complete { IsComplete (AsksLocal (texts words.entry.now)) LocalEnds
         (outside (F.holds files.old) (F.faults files.old) (S.appended out.old) (S.faults out.old))
         (outside (F.holds files.new) (F.faults files.new) (S.appended out.new) (S.faults out.new)) result }
     ensures same { F.holds files.new ≡ F.holds files.old }
     ensures files_never_fall { F.faults files.old ≤ F.faults files.new }
     ensures out_never_falls { S.faults out.old ≤ S.faults out.new }
 {
-    let outcome = run_local(alloc, words, files);
+    let read = read_local(alloc, offers(), words);
+    let outcome = run_local(alloc, &read, files);
     end(alloc, out, outcome)
 }
 
-/// What the words after `local` come to.
+/// What comes of the words after `local`, as they were read.
 fn run_local<'a, F: Files>(
     alloc: Global,
-    words: &'a [String],
+    read: &'a Result<LocalWords, WordsError>,
     files: &mut F,
 ) -> Result<String, Refusal<'a>>
-    ensures came { Asked (IsLocal (texts words.entry.now))
+    ensures came { ReadEnds local_request
         (LocalEnds (F.holds files.old) (Rose (F.faults files.old) (F.faults files.new)))
-        (came_to result) }
+        read.entry.now (came_to result) }
     ensures same { F.holds files.new ≡ F.holds files.old }
     ensures never_falls { F.faults files.old ≤ F.faults files.new }
 {
-    match read_local(words) {
-        Some(words) => local_report(alloc, &words, files),
-        None => Err(Refusal::Usage),
+    match read {
+        Ok(words) => local_report(alloc, words, files),
+        Err(error) => Err(Refusal::from(*error)),
     }
 }

@@ -3,6 +3,7 @@ ghost use Rattle.motion_cli.specs.Refusal.{status_of, line_of, cause_of, circuit
 
 use crate::status::Status;
 use circuit_values::ValuesCause;
+use cli_words::WordsError;
 use mixed_circuit::CircuitCause;
 use mot_base::NoMemory;
 use std::alloc::{AllocError, Global};
@@ -138,5 +139,19 @@ impl From<NoMemory> for Refusal<'_> {
 
     fn from(_error: NoMemory) -> Self {
         Refusal::Memory
+    }
+}
+
+impl From<WordsError> for Refusal<'_> {
+    ghost use Rattle.std.specs.Prelude.{◌≡◌};
+    ghost use Rattle.motion_cli.specs.Refusal.{read_refused};
+
+    ghost from_gives = { λ error refusal. refusal ≡ read_refused error };
+
+    fn from(error: WordsError) -> Self {
+        match error {
+            WordsError::Usage => Refusal::Usage,
+            WordsError::NoMemory => Refusal::Memory,
+        }
     }
 }

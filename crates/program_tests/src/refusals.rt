@@ -26,7 +26,7 @@ static FILES: [(&str, &str); 10] = [
     ),
 ];
 
-static WORDS: [&[&str]; 19] = [
+static WORDS: [&[&str]; 37] = [
     &[],
     &["plain"],
     &["plain", "product"],
@@ -62,6 +62,36 @@ static WORDS: [&[&str]; 19] = [
         "both",
         "000000000000000000000000000000000000000000000000000000000000000g",
     ],
+    // help, which there is none of, and a divider in the place of a command
+    &["-h"],
+    &["--help"],
+    &["plain", "--help"],
+    &["--"],
+    &["--", "plain", "product", "both"],
+    // empty words, on both sides of the divider
+    &["plain", "", "both"],
+    &["plain", "product", "--", ""],
+    &["plain", "product", "both", "--", "--"],
+    // options that are not run with the command, or with none
+    &["plain", "product", "both", "--as=B", "--parties", "2"],
+    &[
+        "plain",
+        "product",
+        "both",
+        "--as=B",
+        "--as=B",
+        "--parties",
+        "2",
+    ],
+    &["plain", "product", "both", "--par", "2"],
+    &["--as=B", "plain", "product", "both", "--parties", "2"],
+    &["local", "product", "both", SEED, "--dealer", "d"],
+    &["local", "product", "both", SEED, "--dealer", "-d"],
+    &["local", "product", "both", SEED, "--dealer="],
+    &["local", "product", "both", SEED, "--workers", "2"],
+    // commands that are not run
+    &["needs", "product"],
+    &["batch", "product", SEED, "2", "1", "0", "0", "0"],
 ];
 
 #[test]

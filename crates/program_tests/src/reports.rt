@@ -169,3 +169,47 @@ fn the_plain_evaluation_is_printed(rt: HostRuntime) -> Result<(), Fail> {
     }
     Ok(())
 }
+
+const PRODUCT: &str =
+    "mixed 1\nparties 2\nx = input 0 A\ny = input 1 A\nz = mul x y\noutput z all\n";
+
+// files whose names look like options
+static DASHED: [(&str, &str); 6] = [
+    ("c", PRODUCT),
+    ("v", "x = 6\ny = 7\n"),
+    ("-", PRODUCT),
+    ("-c", PRODUCT),
+    ("--", PRODUCT),
+    ("--as=B", "x = 2\ny = 3\n"),
+];
+
+// words, and what is printed
+static LINES: [(&[&str], &str); 9] = [
+    (&["plain", "c", "v"], "z = 42\n"),
+    // the first divider is dropped, and all words behind it are names
+    (&["plain", "--", "c", "v"], "z = 42\n"),
+    (&["plain", "c", "--", "v"], "z = 42\n"),
+    (&["plain", "c", "v", "--"], "z = 42\n"),
+    (&["plain", "--", "-c", "--as=B"], "z = 6\n"),
+    (&["plain", "--", "--", "v"], "z = 42\n"),
+    // one character is no option
+    (&["plain", "-", "v"], "z = 42\n"),
+    (
+        &["local", "-", "v", SEED],
+        "party 0\nz = 42\nparty 1\nz = 42\n",
+    ),
+    (
+        &["local", "--", "c", "--as=B", SEED],
+        "party 0\nz = 6\nparty 1\nz = 6\n",
+    ),
+];
+
+#[test]
+fn names_are_told_from_options(rt: HostRuntime) -> Result<(), Fail> {
+    for (words, printed) in &LINES {
+        let end = Machine::new(&DASHED).run(rt.alloc(), words)?;
+        assert_eq!(rt; end.written(), printed.as_bytes(), "{words:?}");
+        assert_eq!(rt; end.status, 0, "{words:?}");
+    }
+    Ok(())
+}

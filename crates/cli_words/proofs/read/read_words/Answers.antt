@@ -1,9 +1,8 @@
-use Rattle.std.proofs.Common.{◌≡◌, ◌∷◌, List, Some, sym, ◌∙◌, ap, subst, string_bytes}
+use Rattle.std.proofs.Common.{◌≡◌, ◌∷◌, Some, sym, ◌∙◌, ap, string_bytes}
 use Rattle.cli_words.specs.Table.{Text}
-use Rattle.cli_words.specs.Grammar.{Asks, texts}
-use Rattle.cli_words.specs.Request.{request_of}
-use Rattle.cli_words.specs.Pass.{line_request, command_named}
-use Rattle.cli_words.proofs.Reading.{asks_from, none_asked, ok_map}
+use Rattle.cli_words.specs.Grammar.{texts}
+use Rattle.cli_words.specs.Pass.{command_named}
+use Rattle.cli_words.proofs.Reading.{named_from, as_whole, as_none}
 use Rattle.cli_words.proofs.read.read_words.Goals as goal
 
 pub returns-clause-read : goal.returns-clause-read
@@ -11,19 +10,25 @@ returns-clause-read c =
     let words : texts c.args.words.now ≡ string_bytes c.in-Some.name.now ∷ texts c.in-Some.rest.now = ap texts c.in-Some.ensures.cases.0 in
     let named : command_named (string_bytes c.in-Some.name.now) ≡ Some c.in-Some-named.command =
     ap command_named (sym c.as_str.ensures.value) ∙ sym c.named.ensures ∙ c.in-Some-named.is in
-    ok_map (λ r. line_request c.args.offers.now c.in-Some-named.command (texts c.in-Some.rest.now) ≡ Some (request_of r))
-    (λ r. Asks c.args.offers.now (texts c.args.words.now) (request_of r))
-    (λ r h.
-    let P : List Text → Type 0 = λ x. Asks c.args.offers.now x (request_of r) in
-    subst P (sym words) (asks_from c.args.offers.now (string_bytes c.in-Some.name.now) (texts c.in-Some.rest.now)
-    c.in-Some-named.command (request_of r) named (sym c.is_offered.ensures ∙ c.if-not-is_offered.false) h))
-    c.read_line.result c.read_line.ensures.ok
+    as_whole c.args.offers.now c.in-Some-named.command (string_bytes c.in-Some.name.now) (texts c.in-Some.rest.now) (texts c.args.words.now)
+    words named c.read_line.result c.read_line.ensures.read
 
 pub returns-clause-refused : goal.returns-clause-refused
-returns-clause-refused c = λ u r a.
+returns-clause-refused c = λ usage.
     let words : texts c.args.words.now ≡ string_bytes c.in-Some.name.now ∷ texts c.in-Some.rest.now = ap texts c.in-Some.ensures.cases.0 in
     let named : command_named (string_bytes c.in-Some.name.now) ≡ Some c.in-Some-named.command =
     ap command_named (sym c.as_str.ensures.value) ∙ sym c.named.ensures ∙ c.in-Some-named.is in
-    let P : List Text → Type 0 = λ x. Asks c.args.offers.now x r in
-    none_asked c.args.offers.now (string_bytes c.in-Some.name.now) (texts c.in-Some.rest.now) c.in-Some-named.command named
-    (sym c.is_offered.ensures ∙ c.if-not-is_offered.false) (c.read_line.ensures.err u) r (subst P words a)
+    as_none c.args.offers.now c.in-Some-named.command (string_bytes c.in-Some.name.now) (texts c.in-Some.rest.now) (texts c.args.words.now)
+    words named (c.read_line.ensures.refused usage)
+
+pub returns-clause-no_memory : goal.returns-clause-no_memory
+returns-clause-no_memory c = λ wanting.
+    let words : texts c.args.words.now ≡ string_bytes c.in-Some.name.now ∷ texts c.in-Some.rest.now = ap texts c.in-Some.ensures.cases.0 in
+    let named : command_named (string_bytes c.in-Some.name.now) ≡ Some c.in-Some-named.command =
+    ap command_named (sym c.as_str.ensures.value) ∙ sym c.named.ensures ∙ c.in-Some-named.is in
+    let name = named_from (string_bytes c.in-Some.name.now) c.in-Some-named.command named in (
+      c.in-Some-named.command,
+      texts c.in-Some.rest.now,
+      words ∙ ap (λ (x : Text). x ∷ texts c.in-Some.rest.now) name,
+      c.read_line.ensures.no_memory wanting,
+    )

@@ -1,0 +1,19 @@
+ghost use Rattle.motion_cli.specs.Words.{AreRun};
+
+use cli_words::{Command, Offer};
+
+/// The commands that the program runs, each with those of its options that it runs.
+pub(crate) fn offers() -> &'static [Offer]
+    ensures { AreRun result.now }
+{
+    &[
+        Offer {
+            command: Command::Plain,
+            options: &[],
+        },
+        Offer {
+            command: Command::Local,
+            options: &[],
+        },
+    ]
+}
