@@ -94,7 +94,11 @@ fn low(word: u64, width: u8) -> Bits
     ensures word { result.word ≡ word % 2 ^ width }
     ensures width { result.width ≡ width }
 {
-    Bits { word, width: MAX_WIDTH }.slice(0, width)
+    Bits {
+        word,
+        width: MAX_WIDTH,
+    }
+    .slice(0, width)
 }
 
 /// A party's share of the XOR of two shared vectors of one width.
