@@ -1,6 +1,7 @@
 -- What the words and the files of a call settle.
 use Rattle.std.proofs.Common.{ℕ, ◌≡◌, ◌≢◌, inl, inr, Bool, List, [], Option, Some, None, sym, ap, subst, ◌∙◌, arith}
-use Rattle.std.specs.Prelude.{codes, IsSomeAnd, map, false}
+use Rattle.std.specs.Fmt.{decimal}
+use Rattle.std.specs.Prelude.{◌++◌, codes, IsSomeAnd, map, false}
 use Rattle.mot_base.specs.Files.{Holding, IsTooLong}
 use Rattle.share_types.specs.Bits.{number}
 use Rattle.text_lines.specs.Text.{Text}
@@ -21,15 +22,16 @@ use Rattle.mixed_circuit.proofs.EvalLemmas.{evaluates_once}
 use Rattle.motion_cli.specs.declared.status.Status.TheVariants.{Done, Usage, File}
 use Rattle.motion_cli.specs.declared.status.Status.TheVariants as status
 use Rattle.motion_cli.specs.declared.report.Notation.TheVariants.{Decimal}
-use Rattle.motion_cli.specs.Commands.{ReadsCircuit, ReadsInputs, Reports, LoadsBoth, PlainReads, PlainEnds, LocalReads, LocalEnds, RequestEnds}
+use Rattle.motion_cli.specs.Commands.{ReadsCircuit, ReadsInputs, Reports, LoadsBoth, HasTooMany, gates_refused, PlainReads, PlainEnds, NeedsReads, NeedsEnds, LocalReads, LocalEnds, RequestEnds}
 use Rattle.motion_cli.specs.Outcome.{Outcome, file_refused, circuit_refused, values_refused, reported, at_line, line}
 use Rattle.motion_cli.specs.Outcome.Kind.{report}
 use Rattle.motion_cli.specs.Refusal.{circuit_cause, values_cause}
-use Rattle.motion_cli.specs.Report.{output_lines, parties_report}
+use Rattle.gate_plan.specs.Lowering.{all_gates, all_built, lowered}
+use Rattle.motion_cli.specs.Report.{output_lines, parties_report, needs_report}
 use Rattle.motion_cli.specs.Run.{is_built}
-use Rattle.cli_words.specs.Request.{Request, PlainRequest, LocalRequest, plain, needs, deal, local}
-use Rattle.motion_cli.specs.Words.{AsksFor, AsksPlain, AsksLocal}
-use Rattle.motion_cli.proofs.WordsLemmas.{asked_once, plain_once, local_once}
+use Rattle.cli_words.specs.Request.{Request, PlainRequest, NeedsRequest, LocalRequest, plain, needs, deal, local}
+use Rattle.motion_cli.specs.Words.{AsksFor, AsksPlain, AsksNeeds, AsksLocal}
+use Rattle.motion_cli.proofs.WordsLemmas.{asked_once, plain_once, needs_once, local_once}
 use Rattle.motion_cli.specs.Steps.{Fault, IsContent, IsUnloaded, Loads, ReadsAs, Unless}
 
 -- Two ways to an outcome lead to the same one.
@@ -160,6 +162,9 @@ reports_fair c v text x m = (
 circuit_refusing : (name rest : Text) → Refusing (circuit_refused name rest)
 circuit_refusing name rest = ((λ e. let is : status.Circuit ≡ Usage = e in cc), (λ e. let is : status.Circuit ≡ Done = e in cc))
 
+gates_refusing : (name : Text) (c : Circuit) → Refusing (gates_refused name c)
+gates_refusing name c = circuit_refusing name (codes "gates " ++ line (decimal (all_gates c)))
+
 values_refusing : (name rest : Text) → Refusing (values_refused name rest)
 values_refusing name rest = ((λ e. let is : status.Values ≡ Usage = e in cc), (λ e. let is : status.Values ≡ Done = e in cc))
 
@@ -208,11 +213,34 @@ both_fair told rose first second P Q next =
 
 plain_agree : (request : PlainRequest) (circuit values : Text) → Agree (PlainReads request circuit values) (PlainReads request circuit values)
 plain_agree request circuit values = circuit_agree request.circuit circuit _ _
-    (λ c. inputs_agree request.values c values _ _ (λ v. reports_agree c v (output_lines Decimal)))
+    (λ c. unless_agree (HasTooMany c) (gates_refused request.circuit c) _ _
+    (inputs_agree request.values c values _ _ (λ v. reports_agree c v (output_lines Decimal))))
 
 plain_fair : (request : PlainRequest) (circuit values : Text) → Fair (PlainReads request circuit values) (PlainReads request circuit values)
 plain_fair request circuit values = circuit_fair request.circuit circuit _ _
-    (λ c. inputs_fair request.values c values _ _ (λ v. reports_fair c v (output_lines Decimal)))
+    (λ c. unless_fair (HasTooMany c) (gates_refused request.circuit c) _ _ (gates_refusing request.circuit c)
+    (inputs_fair request.values c values _ _ (λ v. reports_fair c v (output_lines Decimal))))
+
+says_agree : (o : Outcome) → Agree (λ end. end ≡ o) (λ end. end ≡ o)
+says_agree o x y m n = m ∙ sym n
+
+says_fair : (text : Text) → Fair (λ end. end ≡ reported text) (λ end. end ≡ reported text)
+says_fair text x m = (
+  (λ e. let is : Done ≡ Usage = sym (ap (λ (o : Outcome). o.status) m) ∙ e in cc),
+  (λ done. (ap (λ (o : Outcome). o.kind) m, m)),
+)
+
+needs_agree : (request : NeedsRequest) (circuit : Text) → Agree (NeedsReads request circuit) (NeedsReads request circuit)
+needs_agree request circuit = circuit_agree request.circuit circuit _ _
+    (λ c. unless_agree (all_built c ≡ false) (circuit_refused request.circuit (line (codes "not built"))) _ _
+    (unless_agree (HasTooMany c) (gates_refused request.circuit c) _ _ (says_agree (reported (needs_report (lowered c))))))
+
+needs_fair : (request : NeedsRequest) (circuit : Text) → Fair (NeedsReads request circuit) (NeedsReads request circuit)
+needs_fair request circuit = circuit_fair request.circuit circuit _ _
+    (λ c. unless_fair (all_built c ≡ false) (circuit_refused request.circuit (line (codes "not built"))) _ _
+    (circuit_refusing request.circuit (line (codes "not built")))
+    (unless_fair (HasTooMany c) (gates_refused request.circuit c) _ _ (gates_refusing request.circuit c)
+    (says_fair (needs_report (lowered c)))))
 
 local_agree : (request : LocalRequest) (circuit values : Text) → Agree (LocalReads request circuit values) (LocalReads request circuit values)
 local_agree request circuit values = circuit_agree request.circuit circuit _ _
@@ -238,6 +266,13 @@ plain_settled words = record {
   fair = λ told rose r. both_fair told rose r.circuit r.values (PlainReads r) (PlainReads r) (plain_fair r);
 }
 
+pub needs_settled : (words : List (List ℕ)) → IsSettled (AsksNeeds words) NeedsEnds
+needs_settled words = record {
+  one = needs_once words;
+  agree = λ held rose r quiet. loads_agree held rose ⊥ r.circuit (NeedsReads r) (NeedsReads r) quiet (λ x. x) (needs_agree r);
+  fair = λ told rose r. loads_fair told rose r.circuit (NeedsReads r) (NeedsReads r) (needs_fair r);
+}
+
 pub local_settled : (words : List (List ℕ)) → IsSettled (AsksLocal words) LocalEnds
 local_settled words = record {
   one = local_once words;
@@ -248,13 +283,13 @@ local_settled words = record {
 request_agree : (held : Holding) (rose : Type 0) (r : Request) → ¬ rose → Agree (RequestEnds (Some held) rose r) (RequestEnds (Some held) ⊥ r)
 request_agree held rose (plain r) quiet = (plain_settled []).agree held rose r quiet
 request_agree held rose (local r) quiet = (local_settled []).agree held rose r quiet
-request_agree held rose (needs r) quiet = λ x y m n. absurd m
+request_agree held rose (needs r) quiet = (needs_settled []).agree held rose r quiet
 request_agree held rose (deal r) quiet = λ x y m n. absurd m
 
 request_fair : (told : Option Holding) (rose : Type 0) (r : Request) → Fair (RequestEnds told rose r) (RequestEnds told ⊥ r)
 request_fair told rose (plain r) = (plain_settled []).fair told rose r
 request_fair told rose (local r) = (local_settled []).fair told rose r
-request_fair told rose (needs r) = λ x m. absurd m
+request_fair told rose (needs r) = (needs_settled []).fair told rose r
 request_fair told rose (deal r) = λ x m. absurd m
 
 pub request_settled : (words : List (List ℕ)) → IsSettled (AsksFor words) RequestEnds

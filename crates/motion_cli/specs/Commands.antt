@@ -1,7 +1,9 @@
 -- What each command comes to: one composition of steps for each.
-use Rattle.std.specs.Prelude.{◌≡◌, Bool, false, List, codes, Option, None}
+use Rattle.std.specs.Prelude.{◌≡◌, ◌<◌, ◌++◌, Bool, false, List, codes, Option, None}
+use Rattle.std.specs.Fmt.{decimal}
 use Rattle.mot_base.specs.Files.{Holding}
-use Rattle.cli_words.specs.Request.{Request, PlainRequest, LocalRequest, plain, needs, deal, local}
+use Rattle.mot_base.specs.Limits.{most_gates}
+use Rattle.cli_words.specs.Request.{Request, PlainRequest, NeedsRequest, LocalRequest, plain, needs, deal, local}
 use Rattle.circuit_values.specs.declared.cause.ValuesCause.{ValuesCause}
 use Rattle.circuit_values.specs.Table.{Told}
 use Rattle.circuit_values.specs.Values as values
@@ -11,10 +13,11 @@ use Rattle.mixed_circuit.specs.Grammar as circuits
 use Rattle.mixed_circuit.specs.Table.{inputs_of}
 use Rattle.mixed_circuit.specs.Eval.{IsPlain}
 use Rattle.text_lines.specs.Text.{Text}
+use Rattle.gate_plan.specs.Lowering.{all_gates, all_built, lowered}
 use Rattle.motion_cli.specs.declared.report.Notation.TheVariants.{Decimal}
 use Rattle.motion_cli.specs.Outcome.{Outcome, reported, line, at_line, circuit_refused, values_refused}
 use Rattle.motion_cli.specs.Refusal.{circuit_cause, values_cause}
-use Rattle.motion_cli.specs.Report.{output_lines, parties_report}
+use Rattle.motion_cli.specs.Report.{output_lines, parties_report, needs_report}
 use Rattle.motion_cli.specs.Run.{is_built}
 use Rattle.motion_cli.specs.Steps.{Fault, Loads, ReadsAs, Unless}
 
@@ -47,16 +50,36 @@ LoadsBoth told rose circuit values next =
 abbrev pub AreUnloaded : Option Holding → Type 0 → Text → Text → Outcome → Type 0
 AreUnloaded told rose circuit values = LoadsBoth told rose circuit values (λ c v end. ⊥)
 
--- `plain`, once both files are loaded
+-- a circuit has too many gates
+abbrev pub HasTooMany : Circuit → Type 0
+HasTooMany c = most_gates < all_gates c
+
+abbrev pub gates_refused : Text → Circuit → Outcome
+gates_refused name c = circuit_refused name (codes "gates " ++ line (decimal (all_gates c)))
+
+-- `plain`, once both files are loaded: too many gates are told before the values
 abbrev pub PlainReads : PlainRequest → Text → Text → Outcome → Type 0
 PlainReads request circuit values =
     ReadsCircuit request.circuit circuit (λ c.
+    Unless (HasTooMany c) (gates_refused request.circuit c) (
     ReadsInputs request.values c values (λ v.
-    Reports c v (output_lines Decimal)))
+    Reports c v (output_lines Decimal))))
 
 -- `plain`: each output of the plain evaluation
 abbrev pub PlainEnds : Option Holding → Type 0 → PlainRequest → Outcome → Type 0
 PlainEnds told rose request = LoadsBoth told rose request.circuit request.values (PlainReads request)
+
+-- `needs`, once the file is loaded: what the plan of the circuit needs
+abbrev pub NeedsReads : NeedsRequest → Text → Outcome → Type 0
+NeedsReads request circuit =
+    ReadsCircuit request.circuit circuit (λ c.
+    Unless (all_built c ≡ false) (circuit_refused request.circuit (line (codes "not built"))) (
+    Unless (HasTooMany c) (gates_refused request.circuit c) (λ end.
+    end ≡ reported (needs_report (lowered c)))))
+
+-- `needs`: how many gates a circuit has, and how many correlations of each kind they need
+abbrev pub NeedsEnds : Option Holding → Type 0 → NeedsRequest → Outcome → Type 0
+NeedsEnds told rose request = Loads told rose request.circuit (NeedsReads request)
 
 -- `local`, once both files are loaded: a circuit that is not built is told before the values
 abbrev pub LocalReads : LocalRequest → Text → Text → Outcome → Type 0
@@ -73,6 +96,6 @@ LocalEnds told rose request = LoadsBoth told rose request.circuit request.values
 -- what a request comes to, of a command that is run
 abbrev pub RequestEnds : Option Holding → Type 0 → Request → Outcome → Type 0
 RequestEnds told rose (plain request) = PlainEnds told rose request
+RequestEnds told rose (needs request) = NeedsEnds told rose request
 RequestEnds told rose (local request) = LocalEnds told rose request
-RequestEnds told rose (needs request) = λ end. ⊥
 RequestEnds told rose (deal request) = λ end. ⊥

@@ -1,5 +1,6 @@
 -- The status and the line of each refusal.
-use Rattle.std.specs.Prelude.{codes, Result, Ok, Err, String, string_bytes}
+use Rattle.std.specs.Fmt.{decimal}
+use Rattle.std.specs.Prelude.{◌++◌, codes, Result, Ok, Err, String, string_bytes}
 use Rattle.std.specs.declared.alloc.Global.{Global}
 use Rattle.text_lines.specs.Text.{Text}
 use Rattle.circuit_values.specs.declared.cause.ValuesCause.{ValuesCause}
@@ -13,7 +14,7 @@ use Rattle.motion_cli.specs.declared.status.Status.TheVariants as status
 use Rattle.motion_cli.specs.declared.refusal.FileCause.{FileCause}
 use Rattle.motion_cli.specs.declared.refusal.FileCause.TheVariants.{Missing, TooLong, Fault}
 use Rattle.motion_cli.specs.declared.refusal.Refusal.{Refusal}
-use Rattle.motion_cli.specs.declared.refusal.Refusal.TheVariants.{Usage, Circuit, NotBuilt, Values, File, Memory}
+use Rattle.motion_cli.specs.declared.refusal.Refusal.TheVariants.{Usage, Circuit, NotBuilt, Gates, Values, File, Memory}
 use Rattle.motion_cli.specs.Outcome.{Outcome, refused, reported, line, about, at_line}
 
 abbrev pub cause_of : FileCause → Text
@@ -46,6 +47,7 @@ abbrev pub status_of : Refusal → Status
 status_of Usage = status.Usage
 status_of (Circuit name number cause) = status.Circuit
 status_of (NotBuilt name) = status.Circuit
+status_of (Gates name gates) = status.Circuit
 status_of (Values name number cause) = status.Values
 status_of (File name cause) = status.File
 status_of Memory = status.Memory
@@ -55,6 +57,7 @@ line_of Usage = line (codes "usage")
 line_of (Circuit name number cause) =
     about (codes "circuit") name.now (at_line number (circuit_cause cause))
 line_of (NotBuilt name) = about (codes "circuit") name.now (line (codes "not built"))
+line_of (Gates name gates) = about (codes "circuit") name.now (codes "gates " ++ line (decimal gates))
 line_of (Values name number cause) = about (codes "values") name.now (at_line number (values_cause cause))
 line_of (File name cause) = about (codes "file") name.now (line (cause_of cause))
 line_of Memory = line (codes "memory")

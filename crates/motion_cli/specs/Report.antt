@@ -1,9 +1,12 @@
 -- What commands report.
-use Rattle.std.specs.Prelude.{ℕ, zero, suc, Bool, List, [], ◌∷◌, ◌++◌, codes, filter}
+use Rattle.std.specs.Prelude.{ℕ, zero, suc, Bool, List, [], ◌∷◌, ◌++◌, codes, filter, length}
 use Rattle.std.specs.Fmt.{decimal}
 use Rattle.share_types.specs.Bits.{number}
+use Rattle.share_types.specs.declared.needs.Needs.{Needs}
 use Rattle.circuit_values.specs.Table.{Told, is_receiver}
 use Rattle.text_lines.specs.Text.{Text}
+use Rattle.gate_plan.specs.Plan.{Gates}
+use Rattle.gate_plan.specs.Needs.{all_needs}
 use Rattle.motion_cli.specs.Outcome.{line, line_end}
 use Rattle.motion_cli.specs.declared.report.Notation.{Notation}
 use Rattle.motion_cli.specs.declared.report.Notation.TheVariants.{Decimal}
@@ -35,3 +38,18 @@ abbrev pub parties_report : Notation → List Told → ℕ → Text
 parties_report notation outputs zero = []
 parties_report notation outputs (suc party) =
     parties_report notation outputs party ++ party_report notation outputs party
+
+-- a count with its name
+abbrev pub count_line : Text → ℕ → Text
+count_line name count = name ++ (codes " " ++ line (decimal count))
+
+-- how many correlations of each kind are needed
+abbrev pub needs_lines : Needs → Text
+needs_lines needs =
+    count_line (codes "mult") needs.mult
+    ++ (count_line (codes "bit") needs.bit
+    ++ (count_line (codes "shared") needs.shared ++ count_line (codes "key") needs.key))
+
+-- what is reported of a plan: how many gates it has, and what they need
+abbrev pub needs_report : Gates → Text
+needs_report plan = count_line (codes "gates") (length plan.gates) ++ needs_lines (all_needs plan)

@@ -1,6 +1,6 @@
 //! What each command comes to.
 
-ghost use Rattle.std.specs.Prelude.{◌≡◌, ◌≤◌, ◌⊎◌, length, map, true, false, None, IfOk, IfErr, string_bytes};
+ghost use Rattle.std.specs.Prelude.{◌≡◌, ◌≤◌, ◌⊎◌, length, map, true, false, codes, None, IfOk, IfErr, string_bytes};
 ghost use Rattle.mot_base.specs.Faults.{Rose};
 ghost use Rattle.mot_base.specs.Limits.{most_file_bytes};
 ghost use Rattle.circuit_values.specs.declared.cause.ValuesCause.{ValuesCause};
@@ -9,22 +9,24 @@ ghost use Rattle.circuit_values.specs.Values as values;
 ghost use Rattle.mixed_circuit.specs.declared.cause.CircuitCause.{CircuitCause};
 ghost use Rattle.mixed_circuit.specs.Grammar.{Reads, FirstFault};
 ghost use Rattle.mixed_circuit.specs.Table.{inputs_of};
-ghost use Rattle.motion_cli.specs.Commands.{PlainReads, PlainEnds, LocalReads, LocalEnds, Reports};
-ghost use Rattle.motion_cli.specs.Outcome.{at_line, memory, reported, circuit_refused, values_refused};
+ghost use Rattle.gate_plan.specs.Lowering.{all_built, lowered};
+ghost use Rattle.motion_cli.specs.Commands.{HasTooMany, gates_refused, PlainReads, PlainEnds, NeedsReads, NeedsEnds, LocalReads, LocalEnds, Reports};
+ghost use Rattle.motion_cli.specs.Outcome.{line, at_line, memory, reported, circuit_refused, values_refused};
 ghost use Rattle.motion_cli.specs.Refusal.{outcome_of, came_to, circuit_cause, values_cause};
 ghost use Rattle.motion_cli.specs.Report.{output_lines, parties_report};
 ghost use Rattle.motion_cli.specs.Run.{is_built, word_of_shares};
 ghost use Rattle.motion_cli.specs.Steps.{Fault};
-ghost use Rattle.cli_words.specs.Request.{plain_request, local_request};
+ghost use Rattle.cli_words.specs.Request.{plain_request, needs_request, local_request};
 
-use crate::load::load_both;
+use crate::load::{load, load_both};
 use crate::refusal::Refusal;
-use crate::report::{Notation, report_all, report_parties};
+use crate::report::{Notation, report_all, report_needs, report_parties};
 use crate::run::{Shares, is_built, run_on_shares};
 use circuit_values::{Values, ValuesError, read_values};
-use cli_words::{LocalWords, PlainWords};
+use cli_words::{LocalWords, NeedsWords, PlainWords};
+use gate_plan::{Plan, PlanError, lower_mixed, lowered_gates};
 use mixed_circuit::{CircuitError, Mixed, plain, read_mixed};
-use mot_base::{Files, NoMemory};
+use mot_base::{Files, MAX_GATES, NoMemory};
 use std::alloc::Global;
 
 /// The report of `plain`: each output of the plain evaluation.
@@ -56,9 +58,67 @@ fn plain_of_texts<'a>(
         ⊎ (came_to result ≡ memory) }
 {
     let circuit = circuit_of(alloc, words.circuit.as_str(), circuit)?;
+    let gates = lowered_gates(&circuit);
+    if gates > u64::from(MAX_GATES) {
+        return Err(Refusal::Gates {
+            name: words.circuit.as_str(),
+            gates,
+        });
+    }
     let values = values_of(alloc, words.values.as_str(), &circuit, values)?;
     let outputs = plain(alloc, &circuit, &values)?;
     Ok(report_all(alloc, Notation::Decimal, &outputs)?)
+}
+
+/// The report of `needs`: how many gates the circuit has, and how many correlations of each kind they need.
+pub(crate) fn needs_report<'a, F: Files>(
+    alloc: Global,
+    words: &'a NeedsWords,
+    files: &mut F,
+) -> Result<String, Refusal<'a>>
+    ensures came { NeedsEnds (F.holds files.old) (Rose (F.faults files.old) (F.faults files.new))
+        (needs_request words.entry.now) (came_to result)
+        ⊎ (came_to result ≡ memory) }
+    ensures same { F.holds files.new ≡ F.holds files.old }
+    ensures never_falls { F.faults files.old ≤ F.faults files.new }
+{
+    let text = load(alloc, files, words.circuit.as_str())?;
+    needs_of_text(alloc, words, text)
+}
+
+/// The same, once the file is loaded.
+fn needs_of_text<'a>(
+    alloc: Global,
+    words: &'a NeedsWords,
+    text: Vec<u8>,
+) -> Result<String, Refusal<'a>>
+    requires { length text.items ≤ most_file_bytes }
+    ensures { NeedsReads (needs_request words.entry.now) text.items (came_to result)
+        ⊎ (came_to result ≡ memory) }
+{
+    let circuit = circuit_of(alloc, words.circuit.as_str(), text)?;
+    let plan = plan_of(alloc, words.circuit.as_str(), &circuit)?;
+    Ok(report_needs(alloc, &plan)?)
+}
+
+/// The plan of a circuit.
+fn plan_of<'a>(alloc: Global, name: &'a str, circuit: &Mixed) -> Result<Plan, Refusal<'a>>
+    ensures plan { IfOk result (λ plan. plan ≡ lowered circuit.now) }
+    ensures built { IfOk result (λ plan. all_built circuit.now ≡ true) }
+    ensures few { IfOk result (λ plan. ¬ (HasTooMany circuit.now)) }
+    ensures err { IfErr result (λ refusal.
+        ((all_built circuit.now ≡ false)
+        × (outcome_of refusal ≡ circuit_refused name.entry.now (line (codes "not built"))))
+        ⊎ (((all_built circuit.now ≡ true) × HasTooMany circuit.now
+        × (outcome_of refusal ≡ gates_refused name.entry.now circuit.now))
+        ⊎ (outcome_of refusal ≡ memory))) }
+{
+    match lower_mixed(alloc, circuit) {
+        Ok(plan) => Ok(plan),
+        Err(PlanError::NotBuilt) => Err(Refusal::NotBuilt { name }),
+        Err(PlanError::TooManyGates { gates }) => Err(Refusal::Gates { name, gates }),
+        Err(PlanError::NoMemory) => Err(Refusal::Memory),
+    }
 }
 
 /// The report of `local`: for each party, the outputs that it is told.

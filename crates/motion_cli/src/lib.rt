@@ -12,5 +12,5 @@ mod report;
 mod run;
 mod status;
 
-pub use program::{local_command, motion, plain_command};
+pub use program::{local_command, motion, needs_command, plain_command};
 pub use status::Status;

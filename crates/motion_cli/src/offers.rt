@@ -12,6 +12,10 @@ pub(crate) fn offers() -> &'static [Offer]
             options: &[],
         },
         Offer {
+            command: Command::Needs,
+            options: &[],
+        },
+        Offer {
             command: Command::Local,
             options: &[],
         },

@@ -23,6 +23,11 @@ pub enum Refusal<'a> {
     NotBuilt {
         name: &'a str,
     },
+    /// The circuit of this name has too many gates.
+    Gates {
+        name: &'a str,
+        gates: u64,
+    },
     /// A line of the values of this name shows a cause.
     Values {
         name: &'a str,
@@ -100,7 +105,9 @@ impl Refusal<'_> {
     {
         match self {
             Refusal::Usage => Status::Usage,
-            Refusal::Circuit { .. } | Refusal::NotBuilt { .. } => Status::Circuit,
+            Refusal::Circuit { .. } | Refusal::NotBuilt { .. } | Refusal::Gates { .. } => {
+                Status::Circuit
+            }
             Refusal::Values { .. } => Status::Values,
             Refusal::File { .. } => Status::File,
             Refusal::Memory => Status::Memory,
@@ -118,6 +125,7 @@ impl Refusal<'_> {
                 format!(in alloc; "circuit {name}: line {line}: {cause}\n")
             }
             Refusal::NotBuilt { name } => format!(in alloc; "circuit {name}: not built\n"),
+            Refusal::Gates { name, gates } => format!(in alloc; "circuit {name}: gates {gates}\n"),
             Refusal::Values { name, line, cause } => {
                 let cause = values_word(*cause);
                 format!(in alloc; "values {name}: line {line}: {cause}\n")

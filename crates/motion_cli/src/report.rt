@@ -1,10 +1,12 @@
 ghost use Rattle.std.specs.Prelude.{◌≡◌, ◌<◌, ◌≤◌, ◌++◌, All, length, slice_get, [], IfOk, IfSome, OnOk, string_bytes, if◌then◌else◌};
 ghost use Rattle.mot_base.specs.Limits.{most_width};
 ghost use Rattle.circuit_values.specs.Table.{is_receiver};
-ghost use Rattle.motion_cli.specs.Report.{output_line, output_lines, told_to, party_report, parties_report};
+ghost use Rattle.motion_cli.specs.Report.{output_line, output_lines, told_to, party_report, parties_report, needs_lines, needs_report};
 
 use circuit_values::{Outputs, Receiver, number_of};
+use gate_plan::Plan;
 use mot_base::{NoMemory, Party};
+use share_types::Needs;
 use std::alloc::{AllocError, Global};
 use std::fmt::Write;
 
@@ -45,6 +47,26 @@ pub(crate) fn report_parties(
     for party in 0..parties {
         push_party(&mut text, notation, outputs, Party(party))?;
     }
+    Ok(text)
+}
+
+/// The report of what a plan needs.
+pub(crate) fn report_needs(alloc: Global, plan: &Plan) -> Result<String, NoMemory>
+    ensures { IfOk result (λ text. string_bytes text ≡ needs_report plan.now) }
+{
+    let gates = plan.gates();
+    let needs = plan.needs();
+    let first = format!(in alloc; "gates {gates}\n")?;
+    needs_behind(first, &needs)
+}
+
+/// A text with how many correlations of each kind are needed behind it.
+fn needs_behind(text: String, needs: &Needs) -> Result<String, NoMemory>
+    ensures { IfOk result (λ all. string_bytes all ≡ string_bytes text ++ needs_lines needs.now) }
+{
+    let mut text = text;
+    let (mult, bit, shared, key) = (needs.mult, needs.bit, needs.shared, needs.key);
+    write!(text, "mult {mult}\nbit {bit}\nshared {shared}\nkey {key}\n")?;
     Ok(text)
 }
 
