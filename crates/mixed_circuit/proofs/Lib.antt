@@ -14,3 +14,4 @@ pub mod TableLemmas
 pub mod WidthLemmas
 pub mod EvalLemmas
 pub mod WriteLemmas
+pub mod FoundLemmas
