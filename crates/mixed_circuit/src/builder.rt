@@ -35,7 +35,8 @@ impl<'a> Model for Builder<'a> {
 
     ghost view = { λ b. b.circuit };
 
-    ghost invariant = { λ b. IsCircuit b.circuit × ((name : Text) → place_in b.places name ≡ place_of b.circuit.statements name) };
+    ghost invariant = { λ b. IsCircuit b.circuit
+        × ((name : Text) → place_in b.places name ≡ place_of b.circuit.statements name) };
 }
 
 impl<'a> Builder<'a> {

@@ -44,7 +44,8 @@ impl<'a> Model for Said<'a> {
     ghost view = { λ s. record { name = s.name.now; wire = s.wire; shape = shape_of s.form } };
 }
 
-/// A circuit in mixed text: its parties and its statements, each of which stands behind those whose values it uses.
+/// A circuit in mixed text: its parties and its statements, each of which stands behind those whose values
+/// it uses.
 #[derive(Debug, Drop)]
 pub struct Mixed {
     parties: u8,

@@ -79,7 +79,8 @@ impl<'a> Places<'a> {
     /// The same, where a name has this place.
     pub fn with(self, name: &'a str, place: u32) -> Result<Places<'a>, AllocError>
         ensures { IfOk result (λ places. (other : Text)
-            → place_in places other ≡ cond (bytes_eq name.now other) (Some place) (place_in self.entry other)) }
+            → place_in places other
+            ≡ cond (bytes_eq name.now other) (Some place) (place_in self.entry other)) }
     {
         let Places { mut places } = self;
         places.insert(name, place)?;

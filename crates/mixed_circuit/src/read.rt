@@ -52,7 +52,8 @@ pub fn reads_what_is_said()
     ensures { ReadsWhatIsSaid }
 {}
 
-/// A line that is spelled as an operation wants is a line of that operation, whatever the order of the operations.
+/// A line that is spelled as an operation wants is a line of that operation, whatever the order of the
+/// operations.
 pub fn one_operation()
     ensures { OneOperation }
 {}
