@@ -1,5 +1,5 @@
 -- Bits that are cut into outputs, one after another.
-use Rattle.std.proofs.Common.{ℕ, ◌≡◌, ◌<◌, ◌≤◌, ◌+◌, Bool, true, false, List, [], ◌∷◌, ◌++◌, length, take, drop, Option, Some, None, zero, suc, refl, sym, ◌∙◌, ap, ap₂, subst, arith, append_assoc}
+use Rattle.std.proofs.Common.{ℕ, ◌≡◌, ◌<◌, ◌≤◌, ◌+◌, ◌*◌, ◌^◌, Bool, true, false, List, [], ◌∷◌, ◌++◌, length, take, drop, Option, Some, None, zero, suc, refl, sym, ◌∙◌, ap, ap₂, subst, arith, append_assoc}
 use Rattle.std.specs.Prelude.{slice_get, IfSome, flat_map}
 use Rattle.std.specs.List.{sum_by}
 use Rattle.std.proofs.lemmas.List.Sums.{sum_by-cons}
@@ -152,3 +152,33 @@ all_cut party table bits cut taken at whole to past =
     let end : drop at table ≡ [] = drop_all at table past in
     let same : cut ≡ cut_of (asked party table) bits = sym (append-nil cut) ∙ sym (ap (λ (outputs : List Output). cut ++ cut_of (asked party outputs) (drop taken bits)) end) ∙ to.behind in
     subst (λ told. AreCut (asked party table) bits told) (sym same) (cut_is_cut (asked party table) bits whole)
+
+-- ---- how many bits are asked for
+
+-- the widths of the outputs before a place are summed up
+pub record IsSummedTo (party : Option Party) (table : List Output) (sum at : ℕ) : Type 0 where
+  pub few : sum ≤ at * 2 ^ 32
+  pub within : at ≤ length table
+  pub left : sum + total_width (asked party (drop at table)) ≡ total_width (asked party table)
+
+pub none_summed : (party : Option Party) (table : List Output) → IsSummedTo party table 0 0
+none_summed party table = record { few = omega arith; within = omega arith; left = omega arith }
+
+pub one_more_summed : (party : Option Party) (table : List Output) (sum width at : ℕ) → IsSummedTo party table sum at → at < length table →
+    IfSome (slice_get table at) (λ o. width ≡ width_next party o) → width < 2 ^ 32 → IsSummedTo party table (sum + width) (at + 1)
+one_more_summed party table sum width at to within is small =
+    let there = is_some (slice_get table at) at table refl within in
+    let o = there.0 in
+    let rest = drop (at + 1) table in
+    let split : drop at table ≡ o ∷ rest = drop_at table at o there.1 ∙ ap (λ n. o ∷ drop n table) (suc_is at) in
+    let more = ap (λ (rest : List Output). total_width (asked party rest)) split ∙ width_step party o rest (is_asked party o) refl in
+    let width_is = if_there (slice_get table at) o _ there.1 is in
+    let few = to.few in
+    let left = to.left in
+    record { few = omega (arith, few, small); within = omega (arith, within); left = omega (arith, left, more, width_is) }
+
+pub all_summed : (party : Option Party) (table : List Output) (sum at : ℕ) → IsSummedTo party table sum at → length table ≤ at → sum ≡ total_width (asked party table)
+all_summed party table sum at to past =
+    let left = to.left in
+    let none = ap (λ (outputs : List Output). total_width (asked party outputs)) (drop_all at table past) in
+    omega (arith, left, none)

@@ -1,6 +1,6 @@
 //! Told bits, cut into outputs.
 
-ghost use Rattle.std.specs.Prelude.{◌≡◌, ◌<◌, ◌≤◌, ◌+◌, ◌++◌, ◌∷◌, [], length, drop, slice_get, OnOk, OnErr, IfOk, IfSome};
+ghost use Rattle.std.specs.Prelude.{◌≡◌, ◌==◌, ◌<◌, ◌≤◌, ◌+◌, ◌^◌, ◌++◌, ◌∷◌, [], length, drop, slice_get, OnOk, OnErr, IfOk, IfSome};
 ghost use Rattle.std.specs.List.{sum_by};
 ghost use Rattle.mot_base.specs.Limits.{most_gates};
 ghost use Rattle.circuit_values.specs.Table.{is_receiver, is_asked, asked, joined_bits, total_width, AreCut};
@@ -39,6 +39,46 @@ impl Outputs {
             taken += push_next(&mut outputs, table, at, party, left)?;
         }
         Ok(outputs)
+    }
+
+    /// Whether told vectors have as many bits together as the outputs of a table that are asked for, so that
+    /// they can be cut.
+    pub fn can_cut(table: &OutputTable, party: Option<Party>, told: &[Bits]) -> bool
+        ensures { result ≡ (total_width (asked party table.now) == sum_by (λ v. v.width) told.now) }
+    {
+        let mut left = asked_width(table, party);
+        for vector in told {
+            let width = u64::from(vector.width);
+            if left < width {
+                return false;
+            }
+            left -= width;
+        }
+        left == 0
+    }
+}
+
+/// How many bits the outputs that are asked for have together.
+fn asked_width(table: &OutputTable, party: Option<Party>) -> u64
+    ensures { result ≡ total_width (asked party table.now) }
+{
+    let mut sum = 0;
+    for at in 0..table.len() {
+        sum += width_asked(table, at, party);
+    }
+    sum
+}
+
+/// How many bits the output at a place takes: its width, if it is asked for.
+fn width_asked(table: &OutputTable, at: u32, party: Option<Party>) -> u64
+    requires { at < length table.now }
+    ensures value { IfSome (slice_get table.now at) (λ o. result ≡ width_next party o) }
+    ensures most { result < 2 ^ 32 }
+{
+    if is_asked_for(table, at, party) {
+        u64::from(table.width(at))
+    } else {
+        0
     }
 }
 
