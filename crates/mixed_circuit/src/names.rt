@@ -4,7 +4,8 @@
 ghost use Rattle.std.specs.Prelude.{◌≡◌, Some, None, IfOk, cond};
 ghost use Rattle.std.specs.Str.{bytes_eq};
 ghost use Rattle.text_lines.specs.Text.{Text};
-ghost use Rattle.mixed_circuit.specs.Names.{place_in};
+ghost use Rattle.std.specs.Hash.DefaultHasher.{initial, write};
+ghost use Rattle.mixed_circuit.specs.Names.{key_of, place_in};
 
 use sha2::{Digest, Sha256};
 use std::alloc::{AllocError, Global};
@@ -22,8 +23,10 @@ struct KeyedHash {
 }
 
 impl KeyedHash {
-    /// The key of a text: the first 16 bytes of its SHA-256 (FIPS 180-4).
-    fn of(text: &[u8]) -> KeyedHash {
+    /// Hashes under the key of a text: the first 16 bytes of its SHA-256 (FIPS 180-4).
+    fn of(text: &[u8]) -> KeyedHash
+        ensures { result.behind_key ≡ write initial (key_of text.now) }
+    {
         let digest = Sha256::digest(text);
         let mut behind_key = DefaultHasher::new();
         behind_key.write(&digest[..KEY_LENGTH]);
