@@ -1,4 +1,4 @@
-ghost use Rattle.std.specs.Prelude.{◌≡◌, ◌≤◌, length, map, IfOk, IfErr, IfSome};
+ghost use Rattle.std.specs.Prelude.{◌≡◌, ◌≤◌, ◌+◌, length, map, IfOk, IfErr, IfSome};
 ghost use Rattle.mot_base.specs.Limits.{least_parties, most_parties, most_file_bytes};
 ghost use Rattle.mixed_circuit.specs.Grammar.{is_title, parties_of, behind_words, behind_content, behind, whole, Reads, IsFirstFault, EachReadsOrFaults};
 ghost use Rattle.mixed_circuit.specs.Gives.{Gives};
@@ -36,8 +36,7 @@ pub fn read_mixed(alloc: Global, bytes: &[u8]) -> Result<Mixed, CircuitError>
     let mut stage = Stage::Start;
     let mut number: u32 = 0;
     while let Some(line) = lines.next_line() {
-        number += 1;
-        stage = behind_numbered(alloc, bytes, stage, line, number)?;
+        stage = behind_next(alloc, bytes, stage, line, &mut number)?;
     }
     circuit_of(stage, number)
 }
@@ -71,19 +70,22 @@ fn circuit_of(stage: Stage, last: u32) -> Result<Mixed, CircuitError>
     }
 }
 
-/// The stage behind a line of a text. The number of the line is given.
-fn behind_numbered<'a>(
+/// The stage behind the next line of a text, whose number is one more than that of the line before.
+fn behind_next<'a>(
     alloc: Global,
     text: &'a [u8],
     stage: Stage<'a>,
     line: &'a [u8],
-    number: u32,
+    number: &mut u32,
 ) -> Result<Stage<'a>, CircuitError>
-    ensures { GivesAt number result (behind stage.entry line.entry.now) }
+    requires { number.old ≤ most_file_bytes }
+    ensures counted { number.new ≡ number.old + 1 }
+    ensures read { GivesAt (number.old + 1) result (behind stage.entry line.entry.now) }
 {
+    *number += 1;
     match behind_line(alloc, text, stage, line) {
         Ok(next) => Ok(next),
-        Err(error) => Err(error.at(number)),
+        Err(error) => Err(error.at(*number)),
     }
 }
 
