@@ -6,7 +6,8 @@ use share_types::Bits;
 use std::alloc::Global;
 use std::test::Fail;
 
-/// A table of four outputs, to party 0, to all, to party 1 and to party 0, of which the last is wider than a word.
+/// A table of four outputs, to party 0, to all, to party 1 and to party 0, of which the last is wider than a
+/// word.
 fn table(alloc: Global) -> Result<OutputTable, NoMemory> {
     let mut outputs = OutputTable::new(alloc);
     outputs.push("p", Receiver::One(Party(0)), 3)?;
@@ -25,7 +26,8 @@ fn shown(to: Receiver) -> &'static str {
     }
 }
 
-/// The outputs that vectors of these numbers and widths are cut into, each as its name, its receiver and its bits.
+/// The outputs that vectors of these numbers and widths are cut into, each as its name, its receiver and its
+/// bits.
 fn cut_of(alloc: Global, party: Option<Party>, told: &[(u64, u8)]) -> Result<String, Fail> {
     let table = table(alloc)?;
     let mut vectors = Vec::new(alloc);
@@ -58,7 +60,8 @@ static CUTS: [(Option<Party>, &[(u64, u8)], &str); 9] = [
     (
         Some(Party(0)),
         &[(5, 3), (9, 5), (0x8000000000000001, 64), (2, 2)],
-        "p to 0: 101;q to all: 10010;s to 0: 100000000000000000000000000000000000000000000000000000000000000101;",
+        "p to 0: 101;q to all: 10010;\
+         s to 0: 100000000000000000000000000000000000000000000000000000000000000101;",
     ),
     (
         Some(Party(1)),
@@ -75,7 +78,8 @@ static CUTS: [(Option<Party>, &[(u64, u8)], &str); 9] = [
     (
         None,
         &[(590, 10), (3, 64), (3, 2)],
-        "p to 0: 011;q to all: 10010;r to 1: 01;s to 0: 110000000000000000000000000000000000000000000000000000000000000011;",
+        "p to 0: 011;q to all: 10010;r to 1: 01;\
+         s to 0: 110000000000000000000000000000000000000000000000000000000000000011;",
     ),
     (Some(Party(2)), &[], "cannot be cut"),
     (Some(Party(2)), &[(9, 4)], "cannot be cut"),
