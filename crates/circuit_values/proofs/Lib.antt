@@ -6,3 +6,4 @@ pub mod ReadLemmas
 pub mod WidthLemmas
 pub mod NumberLemmas
 pub mod Narrow
+pub mod CutLemmas

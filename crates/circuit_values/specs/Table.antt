@@ -15,7 +15,8 @@ pub record Input : Type 0 where
 
 -- no two inputs have the same name
 pub record AreNamedApart (inputs : List Input) : Type 0 where
-  pub apart : (i j : ℕ) (x y : Input) → slice_get inputs i ≡ Some x → slice_get inputs j ≡ Some y → x.name ≡ y.name → i ≡ j
+  pub apart : (i j : ℕ) (x y : Input) → slice_get inputs i ≡ Some x → slice_get inputs j ≡ Some y →
+      x.name ≡ y.name → i ≡ j
 
 -- an output: its name, who is told it, and how many bits it has
 pub record Output : Type 0 where
@@ -47,8 +48,8 @@ asked party outputs = filter (is_asked party) outputs
 abbrev pub joined_bits : List Bits → List Bool
 joined_bits vectors = flat_map (λ v. vector.bits v.width v.word) vectors
 
--- bits are cut into outputs: one for each that is asked for, with its name, receiver and number of bits, and joined in
--- order they are all bits
+-- bits are cut into outputs: one for each that is asked for, with its name, receiver and number of bits,
+-- and joined in order they are all bits
 pub record AreCut (outputs : List Output) (bits : List Bool) (cut : List Told) : Type 0 where
   pub names : map (λ t. t.name) cut ≡ map (λ o. o.name) outputs
   pub receivers : map (λ t. t.to) cut ≡ map (λ o. o.to) outputs

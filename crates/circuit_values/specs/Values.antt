@@ -1,5 +1,5 @@
--- The language of values: which texts read as the bits of a table's inputs, and which line of any other text shows the
--- first fault.
+-- The language of values: which texts read as the bits of a table's inputs, and which line of any other
+-- text shows the first fault.
 use Rattle.std.specs.Prelude.{ℕ, ◌≡◌, ◌+◌, ◌==◌, ◌^◌, Bool, true, ◌&&◌, ◌||◌, nat_lt, List, [], ◌∷◌, length, replicate, drop, slice_get, slice_set, Option, Some, None, Result, Ok, option_map, option_and_then, is_none, if◌then◌else◌, codes}
 use Rattle.std.specs.List.{list_all}
 use Rattle.std.specs.Option.{unwrap_or}
@@ -29,7 +29,9 @@ literal_number word = if begins_hexadecimal word then digits_value 16 (drop 2 wo
 
 -- whether a literal's number has no bit at or above a width. A decimal one is below 2^64 too
 abbrev pub literal_fits : Text → ℕ → Bool
-literal_fits word width = (begins_hexadecimal word || nat_lt (literal_number word) (2 ^ 64)) && nat_lt (literal_number word) (2 ^ width)
+literal_fits word width =
+    (begins_hexadecimal word || nat_lt (literal_number word) (2 ^ 64))
+    && nat_lt (literal_number word) (2 ^ width)
 
 -- ---- one line
 
@@ -45,7 +47,10 @@ pub record Assignment : Type 0 where
 
 -- what words assign, where they are a name, `=` and a literal
 abbrev pub assignment_of : List Text → Option Assignment
-assignment_of (name ∷ sign ∷ literal ∷ []) = if bytes_eq sign (codes "=") && is_literal literal then Some (record { name = name; literal = literal }) else None
+assignment_of (name ∷ sign ∷ literal ∷ []) =
+    if bytes_eq sign (codes "=") && is_literal literal
+    then Some (record { name = name; literal = literal })
+    else None
 assignment_of _ = None
 
 -- whether the inputs of a party are asked for: without an owner all are
@@ -56,7 +61,10 @@ is_owned (Some owner) party = owner.0 == party.0
 -- the place of the first input that is asked for and has a name
 abbrev pub place_asked : Option Party → List Input → Text → Option ℕ
 place_asked owner [] name = None
-place_asked owner (x ∷ more) name = if is_owned owner x.party && bytes_eq x.name name then Some 0 else option_map (λ at. at + 1) (place_asked owner more name)
+place_asked owner (x ∷ more) name =
+    if is_owned owner x.party && bytes_eq x.name name
+    then Some 0
+    else option_map (λ at. at + 1) (place_asked owner more name)
 
 -- whether the input at a place has no bits yet
 abbrev pub is_free : List (Option (List Bool)) → ℕ → Bool
@@ -67,7 +75,8 @@ abbrev pub width_at : List Input → ℕ → ℕ
 width_at inputs at = unwrap_or (option_map (λ x. x.width) (slice_get inputs at)) 0
 
 -- the bits that inputs have behind what some words assign, or the first cause that the words show
-unfoldable pub behind_words : List Input → Option Party → List (Option (List Bool)) → List Text → Result (List (Option (List Bool))) ValuesCause
+unfoldable pub behind_words : List Input → Option Party → List (Option (List Bool)) → List Text →
+    Result (List (Option (List Bool))) ValuesCause
 behind_words inputs owner given words = do
   a ← or_cause Word (assignment_of words)
   at ← or_cause NameUnknown (place_asked owner inputs a.name)
@@ -76,20 +85,22 @@ behind_words inputs owner given words = do
   Ok (slice_set given at (Some (bits (width_at inputs at) (literal_number a.literal))))
 
 -- a line of no words is passed over
-abbrev pub behind_content : List Input → Option Party → List (Option (List Bool)) → List Text → Result (List (Option (List Bool))) ValuesCause
+abbrev pub behind_content : List Input → Option Party → List (Option (List Bool)) → List Text →
+    Result (List (Option (List Bool))) ValuesCause
 behind_content inputs owner given [] = Ok given
 behind_content inputs owner given (word ∷ words) = behind_words inputs owner given (word ∷ words)
 
 -- the bits that inputs have behind a line, or the first cause that the line shows
-unfoldable pub behind : List Input → Option Party → List (Option (List Bool)) → Text → Result (List (Option (List Bool))) ValuesCause
+unfoldable pub behind : List Input → Option Party → List (Option (List Bool)) → Text →
+    Result (List (Option (List Bool))) ValuesCause
 behind inputs owner given line = do
   text ← unless Word (list_all is_allowed line)
   behind_content inputs owner given (line_words line)
 
 -- ---- the text
 
--- the value of an input: the bits that it was given. Without any, an input that is asked for has no value, and any
--- other input the empty list
+-- the value of an input: the bits that it was given. Without any, an input that is asked for has no value,
+-- and any other input the empty list
 abbrev pub value_of : Option Party → Input → Option (List Bool) → Option (List Bool)
 value_of owner x (Some given) = Some given
 value_of owner x None = if is_owned owner x.party then None else Some []
@@ -98,20 +109,24 @@ value_of owner x None = if is_owned owner x.party then None else Some []
 abbrev pub values_of : Option Party → List Input → List (Option (List Bool)) → Option (List (List Bool))
 values_of owner [] given = Some []
 values_of owner (x ∷ more) [] = None
-values_of owner (x ∷ more) (o ∷ given) = option_and_then (λ value. option_map (λ rest. value ∷ rest) (values_of owner more given)) (value_of owner x o)
+values_of owner (x ∷ more) (o ∷ given) =
+    option_and_then (λ value. option_map (λ rest. value ∷ rest) (values_of owner more given))
+    (value_of owner x o)
 
 -- the language of the values of these inputs, line by line
-abbrev pub values : List Input → Option Party → LineReader (List (Option (List Bool))) (List (List Bool)) ValuesCause
+abbrev pub values : List Input → Option Party →
+    LineReader (List (Option (List Bool))) (List (List Bool)) ValuesCause
 values inputs owner = record {
   start = replicate (length inputs) None;
   behind = behind inputs owner;
   whole = λ given. or_cause Missing (values_of owner inputs given);
 }
 
--- A text reads as values, one list of bits for each input: no line shows a cause, each assigns its bits to one input,
--- and each input that is asked for has bits. Any other input has none
+-- A text reads as values, one list of bits for each input: no line shows a cause, each assigns its bits to
+-- one input, and each input that is asked for has bits. Any other input has none
 abbrev pub ReadsValues : List Input → Option Party → Text → List (List Bool) → Type 0
-ReadsValues inputs owner text v = ReadsAs (List (Option (List Bool))) (List (List Bool)) ValuesCause (values inputs owner) text v
+ReadsValues inputs owner text v =
+    ReadsAs (List (Option (List Bool))) (List (List Bool)) ValuesCause (values inputs owner) text v
 
 -- the first line of a text that shows a cause, and the first cause of that line
 abbrev pub FirstFault : List Input → Option Party → Text → ℕ → ValuesCause → Type 0
@@ -122,14 +137,19 @@ abbrev pub IsFirstFault : List Input → Option Party → Text → ValuesError �
 IsFirstFault inputs owner text (At line cause) = FirstFault inputs owner text line cause
 IsFirstFault inputs owner text NoMemory = Unit {0}
 
--- of every text exactly one is the case: it reads as one list of values, or one line and cause are its first fault
+-- of every text exactly one is the case: it reads as one list of values, or one line and cause are its
+-- first fault
 abbrev pub EachReadsOrFaults : Type 0
-EachReadsOrFaults = (inputs : List Input) (owner : Option Party) (text : Text) → ReadsOrFaults (List (Option (List Bool))) (List (List Bool)) ValuesCause (values inputs owner) text
+EachReadsOrFaults =
+    (inputs : List Input) (owner : Option Party) (text : Text) →
+    ReadsOrFaults (List (Option (List Bool))) (List (List Bool)) ValuesCause (values inputs owner) text
 
 -- an input that is asked for has as many bits as its width, and any other none
 pub record HaveWidths (owner : Option Party) (inputs : List Input) (v : List (List Bool)) : Type 0 where
   pub count : length v ≡ length inputs
-  pub each : (at : ℕ) (x : Input) (value : List Bool) → slice_get inputs at ≡ Some x → slice_get v at ≡ Some value → length value ≡ (if is_owned owner x.party then x.width else 0)
+  pub each : (at : ℕ) (x : Input) (value : List Bool) →
+      slice_get inputs at ≡ Some x → slice_get v at ≡ Some value →
+      length value ≡ (if is_owned owner x.party then x.width else 0)
 
 -- values of which only those that are wanted have bits
 abbrev pub kept_of : List Bool → List (List Bool) → List (List Bool)

@@ -30,7 +30,9 @@ impl<'a> Model for Asked<'a> {
 
     ghost view = { λ a. record { inputs = a.inputs.now; owner = a.owner } };
 
-    ghost invariant = { λ a. (name : List ℕ) → get_by (λ key. slice_cmp nat_cmp name key.now) a.places ≡ place_asked a.owner a.inputs.now name };
+    ghost invariant = { λ a. (name : List ℕ) →
+        get_by (λ key. slice_cmp nat_cmp name key.now) a.places
+        ≡ place_asked a.owner a.inputs.now name };
 }
 
 impl<'a> Asked<'a> {

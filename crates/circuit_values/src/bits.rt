@@ -47,7 +47,8 @@ fn hexadecimal_digit(byte: u8) -> u64
     }
 }
 
-/// Bits without those at or above a width, which are then zero, or with zeros up to it; none where one of them is not.
+/// Bits without those at or above a width, which are then zero, or with zeros up to it; none where one of
+/// them is not.
 pub fn fit_bits(bits: Vec<bool>, width: u32) -> Result<Option<Vec<bool>>, AllocError>
     ensures none { IfOk result (λ found. is_some found ≡ nat_lt (vector.number bits.items) (2 ^ width)) }
     ensures value { IfOk result (λ found. IfSome found (λ fitted. fitted.items

@@ -1,8 +1,8 @@
 use std::alloc::{AllocError, AllocFailed};
 use thiserror::Error;
 
-/// What is wrong with a line of a values text. Within one line the causes are looked for in this order: `Word`,
-/// `NameUnknown`, `Twice`, `TooWide`; and `Missing` behind all lines.
+/// What is wrong with a line of a values text. Within one line the causes are looked for in this order:
+/// `Word`, `NameUnknown`, `Twice`, `TooWide`; and `Missing` behind all lines.
 #[derive(Clone, Copy, Debug, PartialEq, Eq, Error)]
 pub enum ValuesCause {
     /// No input that is asked for has this name.

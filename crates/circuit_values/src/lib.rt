@@ -4,6 +4,7 @@
 mod asked;
 mod bits;
 mod cause;
+mod cut;
 mod given;
 mod inputs;
 mod literal;
@@ -14,6 +15,7 @@ mod told;
 mod values;
 
 pub use cause::{ValuesCause, ValuesError};
+pub use cut::cuts_once;
 pub use inputs::InputTable;
 pub use outputs::OutputTable;
 pub use read::{each_text_reads_or_faults, read_values};

@@ -4,6 +4,7 @@ ghost use Rattle.text_lines.specs.Word.{are_digits, begins_hexadecimal};
 ghost use Rattle.circuit_values.specs.Values.{is_literal, literal_number, literal_fits};
 
 use crate::bits::{fit_bits, hexadecimal_bits, push_bits};
+use mot_base::MAX_WIDTH;
 use std::alloc::{AllocError, Global};
 use text_lines::{is_numeral, number};
 
@@ -17,8 +18,8 @@ pub fn is_literal_word(word: &[u8]) -> bool
     }
 }
 
-/// The bits of a literal, as many as a width; none where its number has a bit at or above that, or is decimal and
-/// from 2^64 on.
+/// The bits of a literal, as many as a width; none where its number has a bit at or above that, or is
+/// decimal and from 2^64 on.
 pub fn literal_bits(
     alloc: Global,
     literal: &[u8],
@@ -49,6 +50,6 @@ fn decimal_bits(alloc: Global, literal: &[u8], width: u32) -> Result<Option<Vec<
         return Ok(None);
     };
     let mut bits = Vec::new(alloc);
-    push_bits(&mut bits, word, 64)?;
+    push_bits(&mut bits, word, MAX_WIDTH)?;
     fit_bits(bits, width)
 }

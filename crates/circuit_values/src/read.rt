@@ -63,7 +63,8 @@ fn read_asked(alloc: Global, bytes: &[u8], asked: &Asked) -> Result<Values, Valu
     values_behind(alloc, asked, given, number)
 }
 
-/// Of every text exactly one is the case: it reads as one list of values, or one line and cause are its first fault.
+/// Of every text exactly one is the case: it reads as one list of values, or one line and cause are its
+/// first fault.
 pub fn each_text_reads_or_faults()
     ensures { EachReadsOrFaults }
 {}

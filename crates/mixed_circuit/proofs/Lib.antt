@@ -19,3 +19,4 @@ pub mod SlotLemmas
 pub mod AgainLemmas
 pub mod SaidAgainLemmas
 pub mod ReadsBackLemmas
+pub mod FoundLemmas

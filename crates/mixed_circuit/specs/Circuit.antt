@@ -1,6 +1,7 @@
 -- Circuits: what each statement is made of, whatever its form.
 use Rattle.std.specs.Prelude.{ℕ, ◌+◌, Bool, true, false, ◌&&◌, List, [], ◌∷◌, ◌++◌, slice_get, Option, Some, None, option_map, option_and_then, is_some, if◌then◌else◌}
 use Rattle.std.specs.Str.{bytes_eq}
+use Rattle.mot_base.specs.Limits.{most_width}
 use Rattle.share_types.specs.declared.sharing.Sharing.{Sharing}
 use Rattle.share_types.specs.declared.sharing.Sharing.TheVariants.{A, B, Y}
 use Rattle.share_types.specs.declared.sharing.WireType.{WireType}
@@ -13,8 +14,9 @@ use Rattle.mixed_circuit.specs.declared.form.Form.{Form}
 use Rattle.mixed_circuit.specs.declared.form.Form.TheVariants as form
 use Rattle.text_lines.specs.Text.{Text}
 
--- What a statement does, in one shape for all: the operation, how its value is shared if it has one, the places of its
--- operands, the party whose input it is or that is told, and its numbers. A width that is not stated is 64
+-- What a statement does, in one shape for all: the operation, how its value is shared if it has one, the
+-- places of its operands, the party whose input it is or that is told, and its numbers. A width that is not
+-- stated is 64
 pub record Shape : Type 0 where
   pub operation : Operation
   pub sharing : Option Sharing
@@ -26,7 +28,15 @@ pub record Shape : Type 0 where
 
 -- the shape of an operation on operands whose line states no party and no number
 abbrev pub bare : Operation → Option Sharing → List ℕ → Shape
-bare operation sharing operands = record { operation = operation; sharing = sharing; operands = operands; party = None; width = 64; place = 0; constant = 0 }
+bare operation sharing operands = record {
+  operation = operation;
+  sharing = sharing;
+  operands = operands;
+  party = None;
+  width = most_width;
+  place = 0;
+  constant = 0;
+}
 
 -- the party that an output is told to, if it is one
 abbrev pub party_told : Receiver → Option ℕ
@@ -36,8 +46,10 @@ party_told (One party) = Some party.0
 -- the list of all forms
 abbrev pub shape_of : Form → Shape
 shape_of (form.InputA party) = record (bare InputWord (Some A) []) { party = Some party.0 }
-shape_of (form.InputB party width) = record (bare InputBits (Some B) []) { party = Some party.0; width = width }
-shape_of (form.InputY party width) = record (bare InputBits (Some Y) []) { party = Some party.0; width = width }
+shape_of (form.InputB party width) =
+    record (bare InputBits (Some B) []) { party = Some party.0; width = width }
+shape_of (form.InputY party width) =
+    record (bare InputBits (Some Y) []) { party = Some party.0; width = width }
 shape_of (form.ConstA c) = record (bare ConstWord (Some A) []) { constant = c }
 shape_of (form.ConstB c) = record (bare ConstBits (Some B) []) { width = c.width; constant = c.word }
 shape_of (form.ConstY c) = record (bare ConstBits (Some Y) []) { width = c.width; constant = c.word }
@@ -64,7 +76,8 @@ shape_of (form.B2A x) = bare B2A (Some A) (x ∷ [])
 shape_of (form.Y2A x) = bare Y2A (Some A) (x ∷ [])
 shape_of (form.Output x to) = record (bare Output None (x ∷ [])) { party = party_told to }
 
--- a statement: the name of its value, how that is shared, and what it does. An output has no value, and the empty name
+-- a statement: the name of its value, how that is shared, and what it does. An output has no value, and the
+-- empty name
 pub record Statement : Type 0 where
   pub name : Text
   pub wire : Option WireType
@@ -86,7 +99,7 @@ sharing_of (wire.B width) = B
 sharing_of (wire.Y width) = Y
 
 abbrev pub width_of : WireType → ℕ
-width_of wire.A = 64
+width_of wire.A = most_width
 width_of (wire.B width) = width
 width_of (wire.Y width) = width
 
@@ -103,7 +116,10 @@ wire_at statements at = option_and_then (λ s. s.wire) (slice_get statements at)
 -- the place of the first value that has a name
 abbrev pub place_of : List Statement → Text → Option ℕ
 place_of [] name = None
-place_of (s ∷ more) name = if is_some s.wire && bytes_eq s.name name then Some 0 else option_map (λ at. at + 1) (place_of more name)
+place_of (s ∷ more) name =
+    if is_some s.wire && bytes_eq s.name name
+    then Some 0
+    else option_map (λ at. at + 1) (place_of more name)
 
 -- the circuit of no statement
 abbrev pub no_statements : ℕ → Circuit

@@ -11,8 +11,9 @@ use Rattle.mixed_circuit.specs.Language.{states, is_told_slot}
 use Rattle.mixed_circuit.specs.Circuit.{Circuit, Statement, Shape, width_of}
 use Rattle.mixed_circuit.specs.Table.{owner_of, inputs_of, receiver_of, name_at, width_at, told_value}
 
--- what the value of a statement is made of: the number of its input, those of its first and its second operand, the
--- width of the value and of the first operand, and the place and the constant that its line states
+-- what the value of a statement is made of: the number of its input, those of its first and its second
+-- operand, the width of the value and of the first operand, and the place and the constant that its line
+-- states
 pub record Seen : Type 0 where
   pub input : ℕ
   pub x : ℕ
@@ -22,7 +23,8 @@ pub record Seen : Type 0 where
   pub place : ℕ
   pub constant : ℕ
 
--- the number of an operation's value, before it is cut to the value's width. Every conversion keeps the number
+-- the number of an operation's value, before it is cut to the value's width. Every conversion keeps the
+-- number
 abbrev pub number_made : Operation → Seen → ℕ
 number_made InputWord v = v.input
 number_made InputBits v = v.input
@@ -80,15 +82,16 @@ seen_of statements shape input before width = record {
   constant = shape.constant;
 }
 
--- the value of the statement at a place, from the numbers of all inputs, of which the k-th input has the k-th, and from
--- the values before it
+-- the value of the statement at a place, from the numbers of all inputs, of which the k-th input has the
+-- k-th, and from the values before it
 abbrev pub value_of_statement : List Statement → List ℕ → List ℕ → ℕ → Statement → ℕ
 value_of_statement statements inputs before at s =
     value_made s.shape.operation
-    (seen_of statements s.shape (slice_index inputs (length (inputs_of (take at statements)))) before (width_given_by s))
+    (seen_of statements s.shape
+    (slice_index inputs (length (inputs_of (take at statements)))) before (width_given_by s))
 
--- numbers are the values of a circuit's statements on the numbers of its inputs: one for each statement, which is what
--- its operation makes of those before it
+-- numbers are the values of a circuit's statements on the numbers of its inputs: one for each statement,
+-- which is what its operation makes of those before it
 pub record IsEvaluated (statements : List Statement) (inputs values : List ℕ) : Type 0 where
   pub count : length values ≡ length statements
   pub each : (at : ℕ) (s : Statement) → slice_get statements at ≡ Some s →

@@ -1,4 +1,5 @@
--- The language of circuits: which texts read as a circuit, and which line of any other text shows the first fault.
+-- The language of circuits: which texts read as a circuit, and which line of any other text shows the first
+-- fault.
 use Rattle.std.specs.Prelude.{ℕ, Bool, false, ◌&&◌, List, [], ◌∷◌, Option, None, Result, Ok, Err, if◌then◌else◌, codes}
 use Rattle.std.specs.List.{list_all}
 use Rattle.std.specs.Str.{bytes_eq}
@@ -22,7 +23,8 @@ is_title _ = false
 
 -- the number of parties, where the words are `parties` and such a number
 abbrev pub parties_of : List Text → Option ℕ
-parties_of (first ∷ second ∷ []) = if bytes_eq first (codes "parties") then number_within least_parties most_parties second else None
+parties_of (first ∷ second ∷ []) =
+    if bytes_eq first (codes "parties") then number_within least_parties most_parties second else None
 parties_of _ = None
 
 -- the circuit with the statement that a line says, or the first cause that the line shows

@@ -1,5 +1,5 @@
--- The language, one row for each operation: its word, what its line is made of, how its operands may be shared, how
--- its value is shared, and how wide that is.
+-- The language, one row for each operation: its word, what its line is made of, how its operands may be
+-- shared, how its value is shared, and how wide that is.
 use Rattle.std.specs.Prelude.{ℕ, Bool, true, false, List, [], ◌∷◌, length, filter, codes}
 use Rattle.std.specs.List.{list_any}
 use Rattle.share_types.specs.declared.sharing.Sharing.{Sharing}
@@ -16,7 +16,9 @@ use Rattle.text_lines.specs.Text.{Text}
 
 -- every operation, in the order in which lines are compared with them
 abbrev pub operations : List Operation
-operations = InputWord ∷ InputBits ∷ ConstWord ∷ ConstBits ∷ Add ∷ Sub ∷ Mul ∷ AddConst ∷ MulConst ∷ Xor ∷ And ∷ Not ∷ Slice ∷ Join ∷ A2Y ∷ A2B ∷ B2Y ∷ Y2B ∷ B2A ∷ Y2A ∷ Output ∷ []
+operations =
+    InputWord ∷ InputBits ∷ ConstWord ∷ ConstBits ∷ Add ∷ Sub ∷ Mul ∷ AddConst ∷ MulConst
+    ∷ Xor ∷ And ∷ Not ∷ Slice ∷ Join ∷ A2Y ∷ A2B ∷ B2Y ∷ Y2B ∷ B2A ∷ Y2A ∷ Output ∷ []
 
 -- the word of an operation
 abbrev pub word_of : Operation → Text
@@ -101,8 +103,8 @@ gives B2A given = sharing.A
 gives Y2A given = sharing.A
 gives _ given = given
 
--- how wide its value is: 64 bits, the width that the line states, the width of all operands alike, that of bits cut out
--- of the operand, or that of the operands joined
+-- how wide its value is: 64 bits, the width that the line states, the width of all operands alike, that of
+-- bits cut out of the operand, or that of the operands joined
 abbrev pub widths_of : Operation → Widths
 widths_of InputWord = Whole
 widths_of InputBits = Stated

@@ -12,3 +12,4 @@ pub mod Written
 pub mod Rows
 pub mod Wide
 pub mod Eval
+pub mod Names

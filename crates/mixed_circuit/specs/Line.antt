@@ -1,5 +1,5 @@
 -- What one line says behind the statements of the lines before it, or the first cause that it shows.
-use Rattle.std.specs.Prelude.{ℕ, ◌≡◌, ◌+◌, ◌^◌, Bool, true, false, ◌&&◌, ◌==◌, nat_lt, nat_le, List, [], ◌∷◌, ◌++◌, length, map, slice_get, Option, Some, None, Result, Ok, option_map, option_and_then, is_none, if◌then◌else◌, codes}
+use Rattle.std.specs.Prelude.{ℕ, ◌≡◌, ◌+◌, ◌-◌, ◌^◌, Bool, true, false, ◌&&◌, ◌==◌, nat_lt, nat_le, List, [], ◌∷◌, ◌++◌, length, map, slice_get, Option, Some, None, Result, Ok, option_map, option_and_then, is_none, if◌then◌else◌, codes}
 use Rattle.std.specs.List.{list_all, find}
 use Rattle.std.specs.Option.{unwrap_or}
 use Rattle.std.specs.Str.{bytes_eq}
@@ -25,7 +25,10 @@ use Rattle.text_lines.specs.Word.{is_name, number_of}
 
 -- the sharing of a letter
 abbrev pub letter_of : Text → Option Sharing
-letter_of word = if bytes_eq word (codes "A") then Some A else if bytes_eq word (codes "B") then Some B else if bytes_eq word (codes "Y") then Some Y else None
+letter_of word =
+    if bytes_eq word (codes "A") then Some A
+    else if bytes_eq word (codes "B") then Some B
+    else if bytes_eq word (codes "Y") then Some Y else None
 
 abbrev pub is_letter_of : Operation → Option Sharing → Bool
 is_letter_of operation None = false
@@ -44,11 +47,13 @@ is_spelled operation _ word = true
 abbrev pub each_spelled : Operation → List Slot → List Text → Bool
 each_spelled operation [] words = true
 each_spelled operation (s ∷ slots) [] = true
-each_spelled operation (s ∷ slots) (word ∷ words) = is_spelled operation s word && each_spelled operation slots words
+each_spelled operation (s ∷ slots) (word ∷ words) =
+    is_spelled operation s word && each_spelled operation slots words
 
 -- words are as many as the slots of an operation, and each is spelled as its slot wants
 abbrev pub are_spelled : Operation → List Text → Bool
-are_spelled operation words = length (slots_of operation) == length words && each_spelled operation (slots_of operation) words
+are_spelled operation words =
+    length (slots_of operation) == length words && each_spelled operation (slots_of operation) words
 
 -- the operation of a line
 unfoldable pub operation_of : List Text → Option Operation
@@ -56,7 +61,10 @@ operation_of words = find (λ operation. are_spelled operation words) operations
 
 -- the order of the operations is no matter: a line that is spelled as one of them wants is a line of that one
 abbrev pub OneOperation : Type 0
-OneOperation = (words : List Text) (i : ℕ) (operation : Operation) → slice_get operations i ≡ Some operation → are_spelled operation words ≡ true → operation_of words ≡ Some operation
+OneOperation =
+    (words : List Text) (i : ℕ) (operation : Operation) →
+    slice_get operations i ≡ Some operation → are_spelled operation words ≡ true →
+    operation_of words ≡ Some operation
 
 -- what the words of a line state: names, a letter, and numbers
 pub record Parts : Type 0 where
@@ -71,11 +79,21 @@ pub record Parts : Type 0 where
 
 -- a line that states nothing. A width that is not stated is 64
 abbrev pub no_parts : Operation → Parts
-no_parts operation = record { operation = operation; name = None; letter = None; operands = []; party = None; width = 64; place = 0; constant = 0 }
+no_parts operation = record {
+  operation = operation;
+  name = None;
+  letter = None;
+  operands = [];
+  party = None;
+  width = most_width;
+  place = 0;
+  constant = 0;
+}
 
 -- the number that a word spells, where it is one from the least to the most
 abbrev pub number_within : ℕ → ℕ → Text → Option ℕ
-number_within least most word = option_and_then (λ n. if nat_le least n && nat_le n most then Some n else None) (number_of word)
+number_within least most word =
+    option_and_then (λ n. if nat_le least n && nat_le n most then Some n else None) (number_of word)
 
 -- the parts with what a word states in its slot: none where it has to be a number within bounds and is not
 unfoldable pub with_word : Parts → Slot → Text → Option Parts
@@ -85,19 +103,24 @@ with_word parts slot.Keyword word = Some parts
 with_word parts slot.Letter word = Some (record parts { letter = letter_of word })
 with_word parts slot.Operand word = Some (record parts { operands = parts.operands ++ word ∷ [] })
 with_word parts slot.Owner word = option_map (λ n. record parts { party = Some n }) (number_of word)
-with_word parts slot.Told word = if bytes_eq word (codes "all") then Some parts else option_map (λ n. record parts { party = Some n }) (number_of word)
-with_word parts slot.Width word = option_map (λ n. record parts { width = n }) (number_within 1 most_width word)
-with_word parts slot.Place word = option_map (λ n. record parts { place = n }) (number_within 0 63 word)
+with_word parts slot.Told word =
+    if bytes_eq word (codes "all") then Some parts
+    else option_map (λ n. record parts { party = Some n }) (number_of word)
+with_word parts slot.Width word =
+    option_map (λ n. record parts { width = n }) (number_within 1 most_width word)
+with_word parts slot.Place word =
+    option_map (λ n. record parts { place = n }) (number_within 0 (most_width - 1) word)
 with_word parts slot.Constant word = option_map (λ n. record parts { constant = n }) (number_of word)
 
 -- the parts with what words state in their slots
 abbrev pub with_words : Parts → List Slot → List Text → Option Parts
 with_words parts [] words = Some parts
 with_words parts (s ∷ slots) [] = Some parts
-with_words parts (s ∷ slots) (word ∷ words) = option_and_then (λ more. with_words more slots words) (with_word parts s word)
+with_words parts (s ∷ slots) (word ∷ words) =
+    option_and_then (λ more. with_words more slots words) (with_word parts s word)
 
--- what the words of a line state: Word where no operation is spelled so, BadNumber where a number is not as it has to
--- be, or a constant does not fit the width
+-- what the words of a line state: Word where no operation is spelled so, BadNumber where a number is not as
+-- it has to be, or a constant does not fit the width
 unfoldable pub parts_of : List Text → Result Parts CircuitCause
 parts_of words = do
   operation ← or_cause Word (operation_of words)
@@ -119,33 +142,54 @@ is_new statements (Some name) = is_none (place_of statements name)
 
 -- the earlier value that a name is of: its place, and how it is shared
 abbrev pub operand_of : List Statement → Text → Option Operand
-operand_of statements name = option_and_then (λ at. option_map (λ wire. record { at = at; wire = wire }) (wire_at statements at)) (place_of statements name)
+operand_of statements name =
+    option_and_then (λ at. option_map (λ wire. record { at = at; wire = wire }) (wire_at statements at))
+    (place_of statements name)
 
 -- the same of each of several names
 abbrev pub operands_of : List Statement → List Text → Option (List Operand)
 operands_of statements [] = Some []
-operands_of statements (name ∷ names) = option_and_then (λ first. option_map (λ more. first ∷ more) (operands_of statements names)) (operand_of statements name)
+operands_of statements (name ∷ names) =
+    option_and_then (λ first. option_map (λ more. first ∷ more) (operands_of statements names))
+    (operand_of statements name)
 
 -- the sharing of a letter, or that of the first operand, if the operation takes it and all operands have it
 abbrev pub sharing_given : Domain → Option Sharing → List Operand → Option Sharing
 sharing_given domain (Some sharing) operands = Some sharing
-sharing_given domain None operands = option_and_then (λ first. if is_in domain (sharing_of first.wire) && list_all (λ x. is_shared (sharing_of first.wire) x.wire) operands then Some (sharing_of first.wire) else None) (slice_get operands 0)
+sharing_given domain None operands =
+    option_and_then
+    (λ first.
+    if is_in domain (sharing_of first.wire)
+    && list_all (λ x. is_shared (sharing_of first.wire) x.wire) operands
+    then Some (sharing_of first.wire)
+    else None)
+    (slice_get operands 0)
 
 -- the width of the first operand, if all operands have it
 abbrev pub alike_width : List Operand → Option ℕ
-alike_width operands = option_and_then (λ first. if list_all (λ x. width_of x.wire == width_of first.wire) operands then Some (width_of first.wire) else None) (slice_get operands 0)
+alike_width operands =
+    option_and_then
+    (λ first.
+    if list_all (λ x. width_of x.wire == width_of first.wire) operands
+    then Some (width_of first.wire)
+    else None)
+    (slice_get operands 0)
 
 -- how wide the value is, if the widths of the operands fit
 abbrev pub width_given : Widths → Parts → List Operand → Option ℕ
-width_given Whole parts operands = Some 64
+width_given Whole parts operands = Some most_width
 width_given Stated parts operands = Some parts.width
 width_given Alike parts operands = alike_width operands
-width_given Cut parts (x ∷ []) = if nat_le (parts.place + parts.width) (width_of x.wire) then Some parts.width else None
-width_given Joined parts (x ∷ y ∷ []) = if nat_le (width_of x.wire + width_of y.wire) most_width then Some (width_of x.wire + width_of y.wire) else None
+width_given Cut parts (x ∷ []) =
+    if nat_le (parts.place + parts.width) (width_of x.wire) then Some parts.width else None
+width_given Joined parts (x ∷ y ∷ []) =
+    if nat_le (width_of x.wire + width_of y.wire) most_width
+    then Some (width_of x.wire + width_of y.wire)
+    else None
 width_given _ parts operands = None
 
--- the statement of some parts, where its operands were found and their sharings and widths fit. It has a value where
--- it has a name
+-- the statement of some parts, where its operands were found and their sharings and widths fit. It has a
+-- value where it has a name
 abbrev pub statement_of : Parts → List Operand → Sharing → ℕ → Statement
 statement_of parts operands sharing width = record {
   name = unwrap_or parts.name [];

@@ -15,7 +15,8 @@ pub record IsCircuit (c : Circuit) : Type 0 where
   pub some_parties : least_parties ≤ c.parties
   pub most_parties : c.parties ≤ most_parties
   pub few : length c.statements ≤ most_statements
-  pub each : (at : ℕ) (s : Statement) → slice_get c.statements at ≡ Some s → IsSaid c.parties (take at c.statements) s
+  pub each : (at : ℕ) (s : Statement) → slice_get c.statements at ≡ Some s →
+      IsSaid c.parties (take at c.statements) s
 
 -- the operands of a statement at a place are earlier statements
 abbrev pub AreEarlier : ℕ → List ℕ → Type 0

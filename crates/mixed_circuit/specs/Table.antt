@@ -15,7 +15,8 @@ owner_of shape = if states is_owner_slot shape.operation then shape.party else N
 -- the entry of an input in the table, if there is an owner
 abbrev pub input_entry : Statement → Option ℕ → List Input
 input_entry s None = []
-input_entry s (Some party) = record { name = s.name; party = record { 0 = party }; width = s.shape.width } ∷ []
+input_entry s (Some party) =
+    record { name = s.name; party = record { 0 = party }; width = s.shape.width } ∷ []
 
 -- the inputs of statements, in their order
 abbrev pub inputs_of : List Statement → List Input
@@ -41,7 +42,14 @@ told_value s = slice_index s.shape.operands 0
 
 -- the entry of a statement in the table of a circuit's outputs, if it is one
 abbrev pub output_entry : List Statement → Statement → List Output
-output_entry all s = if states is_told_slot s.shape.operation then record { name = name_at all (told_value s); to = receiver_of s.shape.party; width = width_at all (told_value s) } ∷ [] else []
+output_entry all s =
+    if states is_told_slot s.shape.operation
+    then record {
+      name = name_at all (told_value s);
+      to = receiver_of s.shape.party;
+      width = width_at all (told_value s);
+    } ∷ []
+    else []
 
 -- the outputs among statements of a circuit, in their order
 abbrev pub outputs_among : List Statement → List Statement → List Output

@@ -8,44 +8,47 @@ ghost use Rattle.mixed_circuit.specs.Said.{IsCircuit, IsSaid};
 ghost use Rattle.mixed_circuit.specs.Gives.{Gives};
 
 use crate::cause::{CircuitCause, LineError};
-use crate::circuit::{Mixed, Statement};
+use crate::circuit::{Mixed, Said};
+use crate::names::Places;
 use crate::operand::Operand;
 use mot_base::MAX_STATEMENTS;
 use std::alloc::{AllocError, Global};
-use std::collections::BTreeMap;
 use std::marker::Model;
 use text_lines::text_of;
 
-/// A circuit that grows by one statement after another, and the places of its values by their names.
+/// A circuit that grows by one statement after another, and the places of its values by their names, which
+/// stand in the text that is read.
 #[derive(Drop)]
-pub struct Builder {
+pub struct Builder<'a> {
     circuit: Mixed,
-    places: BTreeMap<String, u32>,
+    places: Places<'a>,
 }
 
-impl Model for Builder {
-    ghost use Rattle.std.specs.Prelude.{◌≡◌, ℕ, List};
-    ghost use Rattle.std.specs.BTreeMap.{get_by_text};
+impl<'a> Model for Builder<'a> {
+    ghost use Rattle.std.specs.Prelude.{◌≡◌};
+    ghost use Rattle.text_lines.specs.Text.{Text};
     ghost use Rattle.mixed_circuit.specs.Circuit.{Circuit, place_of};
+    ghost use Rattle.mixed_circuit.specs.Names.{place_in};
     ghost use Rattle.mixed_circuit.specs.Said.{IsCircuit};
 
     ghost Value = { Circuit };
 
     ghost view = { λ b. b.circuit };
 
-    ghost invariant = { λ b. IsCircuit b.circuit × ((name : List ℕ) → get_by_text b.places name ≡ place_of b.circuit.statements name) };
+    ghost invariant = { λ b. IsCircuit b.circuit
+        × ((name : Text) → place_in b.places name ≡ place_of b.circuit.statements name) };
 }
 
-impl Builder {
-    /// The circuit of no statement.
-    pub fn new(alloc: Global, parties: u8) -> Builder
+impl<'a> Builder<'a> {
+    /// The circuit of no statement, whose names are to stand in that text.
+    pub fn new(alloc: Global, text: &[u8], parties: u8) -> Builder<'a>
         requires some { least_parties ≤ parties }
         requires most { parties ≤ most_parties }
         ensures { result ≡ no_statements parties }
     {
         Builder {
             circuit: Mixed::new(alloc, parties),
-            places: BTreeMap::new(alloc),
+            places: Places::none(alloc, text),
         }
     }
 
@@ -65,7 +68,7 @@ impl Builder {
 
     /// The circuit that was built.
     pub fn finish(self) -> Mixed
-        ensures { result ≡ self }
+        ensures { result ≡ self.entry }
     {
         self.circuit
     }
@@ -86,7 +89,7 @@ impl Builder {
     {
         let places = &self.places;
         let name = text_of(word)?;
-        places.get(name).copied()
+        places.get(name)
     }
 
     /// The value that a word names.
@@ -114,47 +117,40 @@ impl Builder {
     }
 
     /// The circuit with one statement more.
-    pub fn with_statement(self, statement: Statement) -> Result<Builder, AllocError>
+    pub fn with_statement(self, alloc: Global, said: Said<'a>) -> Result<Builder<'a>, AllocError>
         requires few { length self.statements < most_statements }
-        requires said { IsSaid self.parties self.statements statement }
-        ensures { IfOk result (λ b. b ≡ with_statement self statement) }
+        requires said { IsSaid self.parties self.statements said }
+        ensures { IfOk result (λ b. b ≡ with_statement self.entry said.entry) }
     {
-        if statement.wire.is_some() {
-            self.with_value(statement)
+        if said.wire.is_some() {
+            self.with_value(alloc, said)
         } else {
-            self.with_output(statement)
+            self.with_output(alloc, said)
         }
     }
 
     /// The circuit with one statement more, which gives a value.
-    fn with_value(self, statement: Statement) -> Result<Builder, AllocError>
+    fn with_value(self, alloc: Global, said: Said<'a>) -> Result<Builder<'a>, AllocError>
         requires few { length self.statements < most_statements }
-        requires said { IsSaid self.parties self.statements statement }
-        requires value { is_some statement.wire ≡ true }
-        ensures { IfOk result (λ b. b ≡ with_statement self statement) }
+        requires said { IsSaid self.parties self.statements said }
+        requires value { is_some said.wire ≡ true }
+        ensures { IfOk result (λ b. b ≡ with_statement self.entry said.entry) }
     {
-        let Builder {
-            mut circuit,
-            mut places,
-        } = self;
-        let name = statement.name.clone()?;
-        places.insert(name, circuit.len())?;
-        circuit.push(statement)?;
+        let Builder { circuit, places } = self;
+        let places = places.with(said.name, circuit.len())?;
+        let circuit = circuit.with_said(alloc, said)?;
         Ok(Builder { circuit, places })
     }
 
     /// The circuit with one statement more, which gives no value.
-    fn with_output(self, statement: Statement) -> Result<Builder, AllocError>
+    fn with_output(self, alloc: Global, said: Said<'a>) -> Result<Builder<'a>, AllocError>
         requires few { length self.statements < most_statements }
-        requires said { IsSaid self.parties self.statements statement }
-        requires no_value { statement.wire ≡ None }
-        ensures { IfOk result (λ b. b ≡ with_statement self statement) }
+        requires said { IsSaid self.parties self.statements said }
+        requires no_value { said.wire ≡ None }
+        ensures { IfOk result (λ b. b ≡ with_statement self.entry said.entry) }
     {
-        let Builder {
-            mut circuit,
-            places,
-        } = self;
-        circuit.push(statement)?;
+        let Builder { circuit, places } = self;
+        let circuit = circuit.with_said(alloc, said)?;
         Ok(Builder { circuit, places })
     }
 }

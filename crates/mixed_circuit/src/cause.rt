@@ -1,8 +1,9 @@
 use std::alloc::{AllocError, AllocFailed};
 use thiserror::Error;
 
-/// What is wrong with a line of a circuit's text. Within one line the causes are looked for in this order: `NotText`,
-/// `Header`, `Word`, `BadNumber`, `BadParty`, `NameTwice`, `NameUnknown`, `WrongSharing`, `WrongWidth`, `TooMany`.
+/// What is wrong with a line of a circuit's text. Within one line the causes are looked for in this order:
+/// `NotText`, `Header`, `Word`, `BadNumber`, `BadParty`, `NameTwice`, `NameUnknown`, `WrongSharing`,
+/// `WrongWidth`, `TooMany`.
 #[derive(Clone, Copy, Debug, PartialEq, Eq, Error)]
 pub enum CircuitCause {
     /// A byte that is not allowed.

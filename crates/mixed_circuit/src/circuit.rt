@@ -27,7 +27,25 @@ impl Model for Statement {
     ghost view = { λ s. record { name = string_bytes s.name; wire = s.wire; shape = shape_of s.form } };
 }
 
-/// A circuit in mixed text: its parties and its statements, each of which stands behind those whose values it uses.
+/// A statement that a line says, whose name stands in the text.
+#[derive(Drop)]
+pub(crate) struct Said<'a> {
+    pub(crate) name: &'a str,
+    pub(crate) wire: Option<WireType>,
+    pub(crate) form: Form,
+}
+
+impl<'a> Model for Said<'a> {
+    ghost use Rattle.mixed_circuit.specs.Circuit as spec;
+    ghost use Rattle.mixed_circuit.specs.Circuit.{shape_of};
+
+    ghost Value = { spec.Statement };
+
+    ghost view = { λ s. record { name = s.name.now; wire = s.wire; shape = shape_of s.form } };
+}
+
+/// A circuit in mixed text: its parties and its statements, each of which stands behind those whose values
+/// it uses.
 #[derive(Debug, Drop)]
 pub struct Mixed {
     parties: u8,
@@ -66,8 +84,20 @@ impl Mixed {
         }
     }
 
+    /// The circuit with one statement more, which has a name of its own.
+    pub(crate) fn with_said(mut self, alloc: Global, said: Said) -> Result<Mixed, AllocError>
+        requires few { length self.statements < most_statements }
+        requires said { IsSaid self.parties self.statements said }
+        ensures value { IfOk result (λ c. c ≡ with_statement self said.entry) }
+        ensures circuit { IfOk result (λ c. IsCircuit c) }
+    {
+        let statement = statement_of(alloc, said)?;
+        self.push(statement)?;
+        Ok(self)
+    }
+
     /// Adds a statement at the end.
-    pub(crate) fn push(&mut self, statement: Statement) -> Result<(), AllocError>
+    fn push(&mut self, statement: Statement) -> Result<(), AllocError>
         requires few { length self.old.statements < most_statements }
         requires said { IsSaid self.old.parties self.old.statements statement }
         ensures ok { OnOk result (self.new ≡ with_statement self.old statement) }
@@ -136,4 +166,16 @@ impl Mixed {
         let _statements = &self.statements;
         values.numbers(alloc)
     }
+}
+
+/// The same statement, with a name of its own.
+fn statement_of(alloc: Global, said: Said) -> Result<Statement, AllocError>
+    ensures { IfOk result (λ s. s ≡ said.entry) }
+{
+    let name = String::from_str(alloc, said.name)?;
+    Ok(Statement {
+        name,
+        wire: said.wire,
+        form: said.form,
+    })
 }

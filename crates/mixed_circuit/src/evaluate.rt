@@ -55,7 +55,8 @@ fn inputs_taken(form: Form) -> usize
     }
 }
 
-/// The value of the statement at a place, from the number of its input, if it is one, and the values before it.
+/// The value of the statement at a place, from the number of its input, if it is one, and the values before
+/// it.
 fn value_of(circuit: &Mixed, at: u32, input: u64, before: &[u64]) -> u64
     requires at { at < length circuit.now.statements }
     requires before { length before.now ≡ at }

@@ -8,6 +8,7 @@ mod evaluate;
 mod form;
 mod language;
 mod line;
+mod names;
 mod operand;
 mod raw;
 mod read;

@@ -6,7 +6,7 @@ ghost use Rattle.mixed_circuit.specs.Stated.{stated, AreWhole};
 
 use crate::builder::Builder;
 use crate::cause::{CircuitCause, LineError};
-use crate::circuit::Statement;
+use crate::circuit::Said;
 use crate::operand::{sharing_of_all, width_of_all};
 use crate::raw::{Raw, check, raw_of};
 use crate::statement::statement_said;
@@ -14,22 +14,26 @@ use std::alloc::Global;
 
 /// The circuit with the statement that the words of a line say.
 #[tactic(auto, unfolding(crate::specs::Grammar::adds))]
-pub fn with_line(alloc: Global, builder: Builder, words: &[&[u8]]) -> Result<Builder, LineError>
-    ensures { Gives (λ b. b) result (adds builder (map (λ word. word.now) words.now)) }
+pub fn with_line<'a>(
+    alloc: Global,
+    builder: Builder<'a>,
+    words: &[&'a [u8]],
+) -> Result<Builder<'a>, LineError>
+    ensures { Gives (λ b. b) result (adds builder.entry (map (λ word. word.now) words.entry.now)) }
 {
-    let statement = statement_of_words(alloc, &builder, words)?;
-    let next = builder.with_statement(statement)?;
+    let said = statement_of_words(alloc, &builder, words)?;
+    let next = builder.with_statement(alloc, said)?;
     Ok(next)
 }
 
 /// The statement that the words of a line say behind those of a circuit.
 #[tactic(auto, unfolding(crate::specs::Line::said))]
-fn statement_of_words(
+fn statement_of_words<'a>(
     alloc: Global,
     builder: &Builder,
-    words: &[&[u8]],
-) -> Result<Statement, LineError>
-    ensures { Gives (λ s. s) result (said builder.now (map (λ word. word.now) words.now)) }
+    words: &[&'a [u8]],
+) -> Result<Said<'a>, LineError>
+    ensures { Gives (λ s. s) result (said builder.now (map (λ word. word.now) words.entry.now)) }
 {
     let raw = raw_of(alloc, words)?;
     let statement = statement_of_raw(alloc, builder, &raw)?;
@@ -39,7 +43,11 @@ fn statement_of_words(
 
 /// The statement that what a line states means behind those of a circuit.
 #[tactic(auto, unfolding(crate::specs::Line::resolved))]
-fn statement_of_raw(alloc: Global, builder: &Builder, raw: &Raw) -> Result<Statement, LineError>
+fn statement_of_raw<'a>(
+    alloc: Global,
+    builder: &Builder,
+    raw: &Raw<'a>,
+) -> Result<Said<'a>, LineError>
     requires { AreWhole (stated raw.now) }
     ensures { Gives (λ s. s) result (resolved builder.now (stated raw.now)) }
 {
@@ -53,8 +61,7 @@ fn statement_of_raw(alloc: Global, builder: &Builder, raw: &Raw) -> Result<State
     let width = width_of_all(raw.operation.widths(), raw, &operands).ok_or(
         CircuitCause::WrongWidth,
     )?;
-    let statement = statement_said(alloc, raw, &operands, sharing, width)?;
-    Ok(statement)
+    Ok(statement_said(raw, &operands, sharing, width))
 }
 
 /// Whether a party, if one is stated, is one of so many.

@@ -37,7 +37,8 @@ pub fn width_in(wire: WireType) -> u8
     }
 }
 
-/// The sharing of a line's letter, or that of the first operand, where the operation takes it and all operands have it.
+/// The sharing of a line's letter, or that of the first operand, where the operation takes it and all
+/// operands have it.
 pub fn sharing_of_all(raw: &Raw, operands: &[Operand]) -> Option<Sharing>
     requires { AreWhole (stated raw.now) }
     ensures value { result ≡ sharing_given (domain_of raw.now.operation) raw.now.letter operands.now }
@@ -112,8 +113,8 @@ fn width_fits(place: u8, width: u8, wire: WireType) -> bool
 
 /// The width of two values joined, which is at most that of a vector.
 fn width_joined(x: WireType, y: WireType) -> Option<u8>
-    ensures { result ≡ (if nat_le (width_of x + width_of y) most_width then Some (width_of x + width_of y) else
-        None) }
+    ensures { result ≡ (if nat_le (width_of x + width_of y) most_width
+        then Some (width_of x + width_of y) else None) }
 {
     let width = u16::from(width_in(x)) + u16::from(width_in(y));
     if width <= u16::from(MAX_WIDTH) {

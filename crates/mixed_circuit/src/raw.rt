@@ -9,6 +9,7 @@ ghost use Rattle.mixed_circuit.specs.Stated.{stated};
 
 use crate::cause::{CircuitCause, LineError};
 use crate::language::{Operation, Slot};
+use mot_base::MAX_WIDTH;
 use share_types::Sharing;
 use std::alloc::Global;
 use text_lines::{is_name_word, number};
@@ -57,7 +58,7 @@ fn no_raw<'a>(alloc: Global, operation: Operation) -> Raw<'a>
         letter: None,
         operands: Vec::new(alloc),
         party: None,
-        width: 64,
+        width: MAX_WIDTH,
         place: 0,
         constant: 0,
     }
@@ -67,7 +68,7 @@ fn no_raw<'a>(alloc: Global, operation: Operation) -> Raw<'a>
 fn is_below_power(number: u64, exponent: u8) -> bool
     ensures { result ≡ nat_lt number (2 ^ exponent) }
 {
-    exponent >= 64 || number >> exponent == 0
+    exponent >= MAX_WIDTH || number >> exponent == 0
 }
 
 /// The operation that a line says.
@@ -173,11 +174,11 @@ fn with_one<'a>(raw: Raw<'a>, slot: Slot, word: &'a [u8]) -> Result<Raw<'a>, Lin
             Ok(Raw { party, ..raw })
         }
         Slot::Width => {
-            let width = number_from_to(1, 64, word).ok_or(CircuitCause::BadNumber)?;
+            let width = number_from_to(1, MAX_WIDTH, word).ok_or(CircuitCause::BadNumber)?;
             Ok(Raw { width, ..raw })
         }
         Slot::Place => {
-            let place = number_from_to(0, 63, word).ok_or(CircuitCause::BadNumber)?;
+            let place = number_from_to(0, MAX_WIDTH - 1, word).ok_or(CircuitCause::BadNumber)?;
             Ok(Raw { place, ..raw })
         }
         Slot::Constant => {

@@ -1,6 +1,6 @@
-ghost use Rattle.std.specs.Prelude.{◌≡◌, ◌≤◌, length, map, IfOk, IfErr, IfSome};
+ghost use Rattle.std.specs.Prelude.{◌≡◌, ◌≤◌, ◌+◌, length, map, IfOk, IfErr, IfSome};
 ghost use Rattle.mot_base.specs.Limits.{least_parties, most_parties, most_file_bytes};
-ghost use Rattle.mixed_circuit.specs.Grammar.{is_title, parties_of, behind_words, behind, whole, Reads, IsFirstFault, EachReadsOrFaults};
+ghost use Rattle.mixed_circuit.specs.Grammar.{is_title, parties_of, behind_words, behind_content, behind, whole, Reads, IsFirstFault, EachReadsOrFaults};
 ghost use Rattle.mixed_circuit.specs.Gives.{Gives};
 ghost use Rattle.mixed_circuit.specs.Reading.{error_at, GivesAt};
 ghost use Rattle.mixed_circuit.specs.Says.{ReadsWhatIsSaid};
@@ -17,13 +17,13 @@ use text_lines::{Lines, are_allowed, line_words_of};
 
 /// How far a circuit's text was read.
 #[derive(Drop)]
-pub enum Stage {
+pub enum Stage<'a> {
     /// Neither header line stands yet.
     Start,
     /// The first header line stands.
     Titled,
     /// Both stand, and the circuit of the statements so far.
-    Body(Builder),
+    Body(Builder<'a>),
 }
 
 /// Reads a circuit in mixed text.
@@ -36,8 +36,7 @@ pub fn read_mixed(alloc: Global, bytes: &[u8]) -> Result<Mixed, CircuitError>
     let mut stage = Stage::Start;
     let mut number: u32 = 0;
     while let Some(line) = lines.next_line() {
-        number += 1;
-        stage = behind_numbered(alloc, stage, line, number)?;
+        stage = behind_next(alloc, bytes, stage, line, &mut number)?;
     }
     circuit_of(stage, number)
 }
@@ -52,14 +51,15 @@ pub fn reads_what_is_said()
     ensures { ReadsWhatIsSaid }
 {}
 
-/// A line that is spelled as an operation wants is a line of that operation, whatever the order of the operations.
+/// A line that is spelled as an operation wants is a line of that operation, whatever the order of the
+/// operations.
 pub fn one_operation()
     ensures { OneOperation }
 {}
 
 /// The circuit behind the last line, whose number is given.
 fn circuit_of(stage: Stage, last: u32) -> Result<Mixed, CircuitError>
-    ensures { GivesAt last result (whole stage) }
+    ensures { GivesAt last result (whole stage.entry) }
 {
     match stage {
         Stage::Body(builder) => Ok(builder.finish()),
@@ -70,18 +70,22 @@ fn circuit_of(stage: Stage, last: u32) -> Result<Mixed, CircuitError>
     }
 }
 
-/// The stage behind a line, whose number is given.
-fn behind_numbered(
+/// The stage behind the next line of a text, whose number is one more than that of the line before.
+fn behind_next<'a>(
     alloc: Global,
-    stage: Stage,
-    line: &[u8],
-    number: u32,
-) -> Result<Stage, CircuitError>
-    ensures { GivesAt number result (behind stage line.now) }
+    text: &'a [u8],
+    stage: Stage<'a>,
+    line: &'a [u8],
+    number: &mut u32,
+) -> Result<Stage<'a>, CircuitError>
+    requires { number.old ≤ most_file_bytes }
+    ensures counted { number.new ≡ number.old + 1 }
+    ensures read { GivesAt (number.old + 1) result (behind stage.entry line.entry.now) }
 {
-    match behind_line(alloc, stage, line) {
+    *number += 1;
+    match behind_line(alloc, text, stage, line) {
         Ok(next) => Ok(next),
-        Err(error) => Err(error.at(number)),
+        Err(error) => Err(error.at(*number)),
     }
 }
 
@@ -97,24 +101,46 @@ impl LineError {
     }
 }
 
-/// The stage behind a line.
+/// The stage behind a line of a text.
 #[tactic(auto, unfolding(crate::specs::Grammar::behind))]
-fn behind_line(alloc: Global, stage: Stage, line: &[u8]) -> Result<Stage, LineError>
-    ensures { Gives (λ s. s) result (behind stage line.now) }
+fn behind_line<'a>(
+    alloc: Global,
+    text: &'a [u8],
+    stage: Stage<'a>,
+    line: &'a [u8],
+) -> Result<Stage<'a>, LineError>
+    ensures { Gives (λ s. s) result (behind stage.entry line.entry.now) }
 {
     check(are_allowed(line), CircuitCause::NotText)?;
     let words = line_words_of(alloc, line)?;
+    behind_words_of(alloc, text, stage, &words)
+}
+
+/// The stage behind the words of a line of a text, if there are any.
+fn behind_words_of<'a>(
+    alloc: Global,
+    text: &'a [u8],
+    stage: Stage<'a>,
+    words: &[&'a [u8]],
+) -> Result<Stage<'a>, LineError>
+    ensures { Gives (λ s. s) result (behind_content stage.entry (map (λ word. word.now) words.entry.now)) }
+{
     if words.is_empty() {
         Ok(stage)
     } else {
-        behind_some_words(alloc, stage, &words)
+        behind_some_words(alloc, text, stage, words)
     }
 }
 
-/// The stage behind the words of a line.
+/// The stage behind the words of a line of a text, of which there are some.
 #[tactic(auto, unfolding(crate::specs::Grammar::behind_words))]
-fn behind_some_words(alloc: Global, stage: Stage, words: &[&[u8]]) -> Result<Stage, LineError>
-    ensures { Gives (λ s. s) result (behind_words stage (map (λ word. word.now) words.now)) }
+fn behind_some_words<'a>(
+    alloc: Global,
+    text: &'a [u8],
+    stage: Stage<'a>,
+    words: &[&'a [u8]],
+) -> Result<Stage<'a>, LineError>
+    ensures { Gives (λ s. s) result (behind_words stage.entry (map (λ word. word.now) words.entry.now)) }
 {
     match stage {
         Stage::Start => {
@@ -123,7 +149,7 @@ fn behind_some_words(alloc: Global, stage: Stage, words: &[&[u8]]) -> Result<Sta
         }
         Stage::Titled => {
             let parties = parties_stated(words).ok_or(CircuitCause::Header)?;
-            Ok(Stage::Body(Builder::new(alloc, parties)))
+            Ok(Stage::Body(Builder::new(alloc, text, parties)))
         }
         Stage::Body(builder) => {
             let next = with_line(alloc, builder, words)?;

@@ -1,4 +1,5 @@
 ghost use Rattle.std.specs.Prelude.{◌≡◌, [], Some, None, option_map};
+ghost use Rattle.mot_base.specs.Limits.{most_width};
 ghost use Rattle.mixed_circuit.specs.declared.language.Operation.TheVariants.{ConstBits};
 ghost use Rattle.mixed_circuit.specs.Circuit as spec;
 ghost use Rattle.mixed_circuit.specs.Circuit.{shape_of, party_told};
@@ -7,11 +8,11 @@ ghost use Rattle.mixed_circuit.specs.Rows.{row_shape};
 use crate::form::Form;
 use crate::language::Operation;
 use circuit_values::Receiver;
-use mot_base::Party;
+use mot_base::{MAX_WIDTH, Party};
 use share_types::{Bits, Sharing};
 
-/// What a form is made of, whatever the form: its operation, the sharing of its value, the places of its operands, of
-/// which as many count as the operation has, its party, and its numbers.
+/// What a form is made of, whatever the form: its operation, the sharing of its value, the places of its
+/// operands, of which as many count as the operation has, its party, and its numbers.
 #[derive(Clone, Copy)]
 pub struct Row {
     pub operation: Operation,
@@ -33,7 +34,7 @@ fn bare(operation: Operation, sharing: Sharing, x: u32, y: u32) -> Row
       y = y;
       party =
           None;
-      width = 64;
+      width = most_width;
       place = 0;
       constant = 0;
     } }
@@ -44,7 +45,7 @@ fn bare(operation: Operation, sharing: Sharing, x: u32, y: u32) -> Row
         x,
         y,
         party: None,
-        width: 64,
+        width: MAX_WIDTH,
         place: 0,
         constant: 0,
     }

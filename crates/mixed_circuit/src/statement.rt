@@ -1,4 +1,4 @@
-ghost use Rattle.std.specs.Prelude.{◌≡◌, ◌<◌, true, [], ◌∷◌, length, map, Some, IfOk, IfSome, IsSome, slice_index};
+ghost use Rattle.std.specs.Prelude.{◌≡◌, ◌<◌, true, [], ◌∷◌, length, map, Some, IfSome, IsSome, slice_index};
 ghost use Rattle.mot_base.specs.Limits.{most_parties};
 ghost use Rattle.mixed_circuit.specs.Language.{domain_of, is_in, arity_of};
 ghost use Rattle.mixed_circuit.specs.declared.language.Domain.TheVariants.{Vectors};
@@ -7,7 +7,7 @@ ghost use Rattle.mixed_circuit.specs.Circuit.{shape_of, party_told, bare, wire_t
 ghost use Rattle.mixed_circuit.specs.Line.{statement_of};
 ghost use Rattle.mixed_circuit.specs.Stated.{stated, AreWhole, shape_stated};
 
-use crate::circuit::Statement;
+use crate::circuit::Said;
 use crate::form::Form;
 use crate::language::Operation;
 use crate::operand::Operand;
@@ -15,7 +15,6 @@ use crate::raw::Raw;
 use circuit_values::Receiver;
 use mot_base::Party;
 use share_types::{Bits, Sharing, WireType};
-use std::alloc::{AllocError, Global};
 use text_lines::name_text;
 
 /// The form of what a line states, where its operands are the values at `x` and `y`, as many as it has.
@@ -176,31 +175,30 @@ fn bits_of(raw: &Raw) -> Bits
 }
 
 /// The statement of what a line states, with its operands, their sharing, and the width of its value.
-pub fn statement_said(
-    alloc: Global,
-    raw: &Raw,
+pub fn statement_said<'a>(
+    raw: &Raw<'a>,
     operands: &[Operand],
     sharing: Sharing,
     width: u8,
-) -> Result<Statement, AllocError>
+) -> Said<'a>
     requires whole { AreWhole (stated raw.now) }
     requires sharing { is_in (domain_of raw.now.operation) sharing ≡ true }
     requires party { IfSome raw.now.party (λ party. party < most_parties) }
     requires arity { length operands.now ≡ arity_of raw.now.operation }
-    ensures { IfOk result (λ s. s ≡ statement_of (stated raw.now) operands.now sharing width) }
+    ensures { result ≡ statement_of (stated raw.now) operands.now sharing width }
 {
     let form = form_of(raw, sharing, place_at(operands, 0), place_at(operands, 1));
     match raw.name {
-        Some(name) => Ok(Statement {
-            name: String::from_str(alloc, name_text(name))?,
+        Some(name) => Said {
+            name: name_text(name),
             wire: Some(wire_of(raw.operation.gives(sharing), width)),
             form,
-        }),
-        None => Ok(Statement {
-            name: String::new(alloc),
+        },
+        None => Said {
+            name: "",
             wire: None,
             form,
-        }),
+        },
     }
 }
 

@@ -7,7 +7,7 @@ use crate::circuit::Mixed;
 use crate::form::Form;
 use crate::operand::width_in;
 use circuit_values::{InputTable, OutputTable, Receiver};
-use mot_base::NoMemory;
+use mot_base::{MAX_WIDTH, NoMemory};
 use std::alloc::Global;
 
 impl Mixed {
@@ -44,7 +44,7 @@ fn push_input(table: &mut InputTable, circuit: &Mixed, at: u32) -> Result<(), No
     ensures one { OnOk result (length table.new ≤ length table.old + 1) }
 {
     match circuit.form(at) {
-        Form::InputA { party } => table.push(circuit.name(at), party, 64),
+        Form::InputA { party } => { table.push(circuit.name(at), party, u32::from(MAX_WIDTH)) }
         Form::InputB { party, width } | Form::InputY { party, width } => {
             table.push(circuit.name(at), party, u32::from(width))
         }

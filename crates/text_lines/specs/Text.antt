@@ -24,10 +24,11 @@ is_allowed b = is_blank b || is_line_end b || (nat_le 32 b && nat_le b 126)
 
 -- a text without the line end that stands at its end, if one does
 abbrev pub without_last_end : Text → Text
-without_last_end text = if is_line_end (slice_index_or text (length text - 1) 0) then take (length text - 1) text else text
+without_last_end text =
+    if is_line_end (slice_index_or text (length text - 1) 0) then take (length text - 1) text else text
 
--- the lines of a text: the parts between its line ends, of which one at the end of the text begins no further line. So
--- an empty text has one empty line
+-- the lines of a text: the parts between its line ends, of which one at the end of the text begins no
+-- further line. So an empty text has one empty line
 abbrev pub lines : Text → List Text
 lines text = slice_split is_line_end (without_last_end text)
 

@@ -13,7 +13,9 @@ is_letter b = (nat_le 65 b && nat_le b 90) || (nat_le 97 b && nat_le b 122) || b
 -- a name: a letter or `_`, then letters, digits and `_`, 64 characters at most
 abbrev pub is_name : Text → Bool
 is_name [] = false
-is_name (first ∷ more) = is_letter first && list_all (λ b. is_letter b || is_digit b 10) more && nat_lt (length more) most_name_characters
+is_name (first ∷ more) =
+    is_letter first && list_all (λ b. is_letter b || is_digit b 10) more
+    && nat_lt (length more) most_name_characters
 
 -- one digit or more in a base, whose letters are of either case
 abbrev pub are_digits : ℕ → Text → Bool
@@ -21,7 +23,10 @@ are_digits base word = not (is_empty word) && list_all (λ b. is_digit b base) w
 
 -- the number below 2^64 that digits in a base spell
 abbrev pub number_in : ℕ → Text → Option ℕ
-number_in base word = if are_digits base word && nat_lt (digits_value base word) (2 ^ 64) then Some (digits_value base word) else None
+number_in base word =
+    if are_digits base word && nat_lt (digits_value base word) (2 ^ 64)
+    then Some (digits_value base word)
+    else None
 
 -- whether a word begins as hexadecimal numbers do
 abbrev pub begins_hexadecimal : Text → Bool

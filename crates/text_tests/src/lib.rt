@@ -4,6 +4,8 @@
 #[cfg(test)]
 mod circuits;
 #[cfg(test)]
+mod cuts;
+#[cfg(test)]
 mod plain;
 #[cfg(test)]
 mod values;

@@ -2,4 +2,4 @@ use Rattle.mixed_circuit.proofs.SaysLemmas.{said_room}
 use Rattle.mixed_circuit.proofs.line.with_line.Goals as goal
 
 pub with_statement-requires-clause-few : goal.with_statement-requires-clause-few
-with_statement-requires-clause-few c = said_room c.args.builder _ _ c.in_ok-statement.ensures
+with_statement-requires-clause-few c = said_room c.args.builder _ _ c.in_ok-said.ensures
