@@ -4,5 +4,5 @@
 mod line;
 mod word;
 
-pub use line::{Lines, are_allowed, line_words_of};
+pub use line::{Lines, are_allowed, line_words_of, words_of};
 pub use word::{is_name_word, is_numeral, name_text, number, text_of};

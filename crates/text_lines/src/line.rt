@@ -83,7 +83,7 @@ pub fn line_words_of(alloc: Global, line: &[u8]) -> Result<Vec<&[u8]>, AllocErro
 }
 
 /// The words of a line: what stands between its blanks.
-fn words_of(alloc: Global, line: &[u8]) -> Result<Vec<&[u8]>, AllocError>
+pub fn words_of(alloc: Global, line: &[u8]) -> Result<Vec<&[u8]>, AllocError>
     ensures { IfOk result (λ found. map (λ word. word.now) found.items ≡ words line.now) }
 {
     line.split(|byte| is_blank_byte(*byte))

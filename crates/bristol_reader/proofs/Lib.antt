@@ -1,0 +1,11 @@
+pub mod NumberLemmas
+pub mod BoolLemmas
+pub mod MarkLemmas
+pub mod GateLemmas
+pub mod CappedLemmas
+pub mod OutputLemmas
+pub mod BuiltLemmas
+pub mod AddedLemmas
+pub mod UsedLemmas
+pub mod LastLemmas
+pub mod ReadLemmas

@@ -1,0 +1,5 @@
+use Rattle.std.proofs.Common.{◌≡◌, ◌<◌, ℕ, false, nat_lt, length, slice_index_or}
+use Rattle.bristol_reader.proofs.marks.marks.Given as goal
+
+abbrev pub invariant-loop-wire : goal.invariant-loop-wire
+invariant-loop-wire l = (length l.set.items ≡ l.wire) × ((w : ℕ) → w < l.wire → slice_index_or l.set.items w false ≡ nat_lt w l.inputs)

@@ -1,0 +1,20 @@
+//! Circuits in Bristol Fashion as text, and what a circuit computes.
+#![tactic(auto)]
+
+mod builder;
+mod cause;
+mod circuit;
+mod gates;
+mod header;
+mod kind;
+mod line;
+mod marks;
+mod number;
+mod read;
+mod stage;
+mod widths;
+
+pub use cause::{BristolCause, BristolError};
+pub use circuit::Bristol;
+pub use kind::BristolKind;
+pub use read::{each_text_reads_or_faults, read_bristol};
