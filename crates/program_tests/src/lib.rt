@@ -4,6 +4,8 @@
 #[cfg(test)]
 mod machine;
 #[cfg(test)]
+mod needs;
+#[cfg(test)]
 mod output;
 #[cfg(test)]
 mod refusals;

@@ -1,6 +1,6 @@
 //! The program on a machine in memory.
 use mot_base::{MemFiles, MemSink};
-use motion_cli::{local_command, motion, plain_command};
+use motion_cli::{local_command, motion, needs_command, plain_command};
 use std::alloc::{AllocError, Global};
 use std::test::Fail;
 
@@ -56,6 +56,15 @@ impl<'a> Machine<'a> {
         let mut files = self.files(alloc)?;
         let mut out = self.out(alloc)?;
         let status = local_command(alloc, words.as_slice(), &mut files, &mut out);
+        Ok(End { status, out })
+    }
+
+    /// Runs the command `needs` on the words after it.
+    pub(crate) fn run_needs(&self, alloc: Global, words: &[&str]) -> Result<End, Fail> {
+        let words = strings(alloc, words)?;
+        let mut files = self.files(alloc)?;
+        let mut out = self.out(alloc)?;
+        let status = needs_command(alloc, words.as_slice(), &mut files, &mut out);
         Ok(End { status, out })
     }
 

@@ -26,7 +26,7 @@ static FILES: [(&str, &str); 10] = [
     ),
 ];
 
-static WORDS: [&[&str]; 37] = [
+static WORDS: [&[&str]; 36] = [
     &[],
     &["plain"],
     &["plain", "product"],
@@ -90,7 +90,6 @@ static WORDS: [&[&str]; 37] = [
     &["local", "product", "both", SEED, "--dealer="],
     &["local", "product", "both", SEED, "--workers", "2"],
     // commands that are not run
-    &["needs", "product"],
     &["batch", "product", SEED, "2", "1", "0", "0", "0"],
 ];
 
