@@ -8,6 +8,7 @@
 
 mod dealer;
 mod messages;
+mod plans;
 mod shares;
 mod tapes;
 mod turns;
@@ -18,7 +19,7 @@ use std::env;
 use std::time::Instant;
 
 /// What can be done, by name. A work is given how many times it is done, and gives a number that shows it.
-static WORKS: [(&str, Work); 11] = [
+static WORKS: [(&str, Work); 13] = [
     ("words", Work::Words),
     ("shares-of-two", Work::SharesOfTwo),
     ("shares-of-eight", Work::SharesOfEight),
@@ -30,6 +31,8 @@ static WORKS: [(&str, Work); 11] = [
     ("frames-by-65536", Work::FramesBy65536),
     ("deal", Work::Deal),
     ("read-keys", Work::ReadKeys),
+    ("read-circuit", Work::ReadCircuit),
+    ("lower-circuit", Work::LowerCircuit),
 ];
 
 #[derive(Clone, Copy)]
@@ -56,6 +59,10 @@ enum Work {
     Deal,
     /// A dealer file of so many key bits of two parties is read.
     ReadKeys,
+    /// A circuit of so many statements is read.
+    ReadCircuit,
+    /// The same circuit is read and lowered, and its messages to one party and all offsets are gone through.
+    LowerCircuit,
 }
 
 impl Work {
@@ -73,6 +80,8 @@ impl Work {
             Work::FramesBy65536 => Ok(messages::read_in_pieces(alloc, size, 65_536)?),
             Work::Deal => Ok(dealer::deal_to_three(alloc, size)?),
             Work::ReadKeys => Ok(dealer::read_keys(alloc, size)?),
+            Work::ReadCircuit => Ok(plans::read(alloc, size)?),
+            Work::LowerCircuit => Ok(plans::lower(alloc, size)?),
         }
     }
 }
