@@ -8,7 +8,7 @@ use Rattle.motion_cli.specs.declared.status.Status.{Status}
 use Rattle.motion_cli.specs.declared.status.Status.TheVariants.{Done, Usage, Write, Memory}
 use Rattle.motion_cli.specs.declared.status.Status.TheVariants as status
 use Rattle.motion_cli.specs.Ending.{Outside, Writes, AreLeft, AreFirst, Ended, Wants, Asked, cut_status}
-use Rattle.motion_cli.specs.Outcome.{Kind, Outcome, code_of, memory, usage}
+use Rattle.motion_cli.specs.Outcome.{Outcome, code_of, memory, usage}
 use Rattle.motion_cli.specs.Outcome.Kind.{report, refusal}
 use Rattle.motion_cli.specs.Settled.{IsUsage, IsDone, IsComplete, IsStored}
 use Rattle.motion_cli.proofs.PartsLemmas.{all_first}

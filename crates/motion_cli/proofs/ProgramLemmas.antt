@@ -1,5 +1,5 @@
 -- How a call of the program ends.
-use Rattle.std.proofs.Common.{ℕ, ◌≡◌, ◌⊎◌, inl, inr, List, [], ◌++◌, Option, Some, None, Result, Ok, Err, String, Global, refl, sym, ap, subst}
+use Rattle.std.proofs.Common.{ℕ, ◌≡◌, ◌⊎◌, inl, inr, List, [], ◌++◌, Option, None, Result, Ok, Err, String, Global, refl, sym, ap, subst}
 use Rattle.std.specs.Prelude.{IfOk, IsErrOf}
 use Rattle.mot_base.specs.Faults.{Rose}
 use Rattle.mot_base.specs.Files.{Holding}
@@ -8,7 +8,7 @@ use Rattle.cli_words.specs.declared.read.WordsError.TheVariants.{Usage, NoMemory
 use Rattle.text_lines.specs.Text.{Text}
 use Rattle.motion_cli.specs.declared.refusal.Refusal.{Refusal}
 use Rattle.motion_cli.specs.Coming.{Came, ReadCame}
-use Rattle.motion_cli.specs.Ending.{Outside, Writes, IsCut, IsWritten, AreLeft, AreFirst, Ended, Asked}
+use Rattle.motion_cli.specs.Ending.{Outside, Writes, IsCut, IsWritten, AreFirst, Ended, Asked}
 use Rattle.motion_cli.specs.Outcome.{Outcome, memory, usage}
 use Rattle.motion_cli.specs.Refusal.{came_to}
 use Rattle.motion_cli.proofs.PartsLemmas.{left_same}

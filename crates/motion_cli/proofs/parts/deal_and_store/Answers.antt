@@ -1,4 +1,4 @@
-use Rattle.std.proofs.Common.{ℕ, ◌≡◌, ◌≤◌, ◌<◌, List, None, length, map, inl, inr, refl, sym, ◌∙◌, ap, ap₂, subst, arith}
+use Rattle.std.proofs.Common.{ℕ, ◌≡◌, ◌<◌, List, None, length, map, inl, inr, refl, sym, ◌∙◌, ap, ap₂, subst, arith}
 use Rattle.mot_base.specs.Faults.{Rose}
 use Rattle.mot_base.specs.Tape.{long_word_of_tape}
 use Rattle.share_types.specs.declared.needs.Needs.{Needs}
@@ -10,7 +10,7 @@ use Rattle.motion_cli.specs.Coming.{IsStopped}
 use Rattle.motion_cli.specs.Commands.{DealEnds}
 use Rattle.motion_cli.specs.Ending.{AreLeft}
 use Rattle.motion_cli.specs.Outcome.{Outcome, reported}
-use Rattle.motion_cli.specs.Parts.{part_file, part_files, part_length, deal_files, deal_id, dealt_line}
+use Rattle.motion_cli.specs.Parts.{part_file, part_files, deal_files, deal_id, dealt_line}
 use Rattle.motion_cli.specs.Refusal.{came_to, outcome_of}
 use Rattle.motion_cli.proofs.PartsLemmas.{came_before, came_stopped, came_stored, memory_said, refusal_said, first_id}
 use Rattle.motion_cli.proofs.parts.deal_and_store.Goals as goal

@@ -1,4 +1,3 @@
-use Rattle.std.proofs.Common.{◌∷◌}
 use Rattle.std.proofs.lemmas.Result.{IfOk-weaker}
 use Rattle.mot_base.specs.Faults.{Rose}
 use Rattle.cli_words.specs.Grammar.{texts, Asks}
