@@ -1,18 +1,19 @@
 -- What the answer of a call says of its words and its files.
-use Rattle.std.proofs.Common.{ℕ, ◌≡◌, ◌≢◌, ◌⊎◌, inl, inr, Option, Some, refl, sym, subst, ◌∙◌, arith}
+use Rattle.std.proofs.Common.{ℕ, ◌≡◌, ◌≢◌, ◌⊎◌, inl, inr, List, [], Option, Some, None, refl, sym, ap, subst, ◌∙◌, arith}
 use Rattle.mot_base.specs.Faults.{Rose}
 use Rattle.mot_base.specs.Files.{Holding}
 use Rattle.mot_base.specs.Sink.{with_more}
 use Rattle.text_lines.specs.Text.{Text}
 use Rattle.motion_cli.specs.declared.status.Status.{Status}
-use Rattle.motion_cli.specs.declared.status.Status.TheVariants.{Done, Usage, Memory}
+use Rattle.motion_cli.specs.declared.status.Status.TheVariants.{Done, Usage, Write, Memory}
 use Rattle.motion_cli.specs.declared.status.Status.TheVariants as status
-use Rattle.motion_cli.specs.Ending.{Outside, Writes, Ended, Asked, cut_status}
-use Rattle.motion_cli.specs.Outcome.{Kind, Outcome, code_of, memory, usage}
+use Rattle.motion_cli.specs.Ending.{Outside, Writes, AreLeft, AreFirst, Ended, Wants, Asked, cut_status}
+use Rattle.motion_cli.specs.Outcome.{Outcome, code_of, memory, usage}
 use Rattle.motion_cli.specs.Outcome.Kind.{report, refusal}
-use Rattle.motion_cli.specs.Settled.{IsUsage, IsDone, IsComplete}
+use Rattle.motion_cli.specs.Settled.{IsUsage, IsDone, IsComplete, IsStored}
+use Rattle.motion_cli.proofs.PartsLemmas.{all_first}
 use Rattle.motion_cli.proofs.ProgramLemmas.{usage_written}
-use Rattle.motion_cli.proofs.SettledLemmas.{IsSettled}
+use Rattle.motion_cli.proofs.SettledLemmas.{Refuses, Gives, IsSettled}
 
 -- The numbers of statuses.
 
@@ -34,87 +35,120 @@ code_zero status.File e = absurd (omega (arith, e))
 code_zero status.Write e = absurd (omega (arith, e))
 code_zero status.Memory e = absurd (omega (arith, e))
 
-cut_one : (kind : Kind) (s : Status) → code_of (cut_status kind s) ≡ 1 → s ≡ Usage
-cut_one report s e = absurd (omega (arith, e))
-cut_one refusal s e = code_one s e
+code_nine : (s : Status) → code_of s ≡ 9 → s ≡ Write
+code_nine status.Done e = absurd (omega (arith, e))
+code_nine status.Usage e = absurd (omega (arith, e))
+code_nine status.Circuit e = absurd (omega (arith, e))
+code_nine status.Values e = absurd (omega (arith, e))
+code_nine status.File e = absurd (omega (arith, e))
+code_nine status.Write e = refl
+code_nine status.Memory e = absurd (omega (arith, e))
 
-cut_zero : (kind : Kind) (s : Status) → code_of (cut_status kind s) ≡ 0 → (s ≡ Done) × (kind ≡ refusal)
-cut_zero report s e = absurd (omega (arith, e))
-cut_zero refusal s e = (code_zero s e, refl)
+-- What was written of an outcome, by its kind.
 
--- The usage.
+refusal_status : (was is : Option Text) (rose : Type 0) (o : Outcome) (status : ℕ) → o.kind ≡ refusal → Writes was is rose o status →
+    status ≡ code_of o.status
+refusal_status was is rose o status kind (inl w) = w.1
+refusal_status was is rose o status kind (inr w) = w.2 ∙ ap (λ k. code_of (cut_status k o.status)) kind
 
-not_one : (was is : Option Text) (rose : Type 0) (o : Outcome) (status : ℕ) → o.status ≢ Usage → Writes was is rose o status → status ≢ 1
-not_one was is rose o status other (inl w) = λ one. other (code_one o.status (sym w.1 ∙ one))
-not_one was is rose o status other (inr w) = λ one. other (cut_one o.kind o.status (sym w.2 ∙ one))
-
-memory_written : (was is : Option Text) (rose : Type 0) (status : ℕ) → Writes was is rose memory status → status ≡ 11
-memory_written was is rose status (inl w) = w.1
-memory_written was is rose status (inr w) = w.2
-
-ran_out_written : (was is : Option Text) (rose : Type 0) (o : Outcome) (status : ℕ) → o ≡ memory → Writes was is rose o status → status ≡ 11
-ran_out_written was is rose o status e written = memory_written was is rose status (subst (λ o. Writes was is rose o status) e written)
+report_status : (was is : Option Text) (rose : Type 0) (o : Outcome) (status : ℕ) → o.kind ≡ report → o.status ≡ Done →
+    Writes was is rose o status → ((status ≡ 0) × (is ≡ with_more was o.text)) ⊎ (status ≡ 9)
+report_status was is rose o status kind done (inl w) = inl (w.1 ∙ ap code_of done, w.0)
+report_status was is rose o status kind done (inr w) = inr (w.2 ∙ ap (λ k. code_of (cut_status k o.status)) kind)
 
 nothing_written : (was is : Option Text) (rose : Type 0) (o : Outcome) (status : ℕ) → o ≡ usage → Writes was is rose o status → status ≡ 1
 nothing_written was is rose o status e written = usage_written was is rose status (subst (λ o. Writes was is rose o status) e written)
 
-none_asked : {R : Type 0} (asks : R → Type 0) (ends : Option Holding → Type 0 → R → Outcome → Type 0) → IsSettled asks ends →
-    (told : Option Holding) (rose fell : Type 0) (was is : Option Text) (o : Outcome) (status : ℕ) →
-    Asked asks (ends told rose) o → Writes was is fell o status → status ≡ 1 → (request : R) → ¬ (asks request)
-none_asked asks ends settled told rose fell was is o status (inl ran_out) written one =
+ran_out_written : (was is : Option Text) (rose : Type 0) (o : Outcome) (status : ℕ) → o ≡ memory → Writes was is rose o status → status ≡ 11
+ran_out_written was is rose o status e written =
+    refusal_status was is rose o status (ap (λ (o : Outcome). o.kind) e) written ∙ ap (λ (o : Outcome). code_of o.status) e
+
+wants_written : (was is : Option Text) (rose : Type 0) (files : List (Text × Text)) (o : Outcome) (status : ℕ) → Wants files o →
+    Writes was is rose o status → status ≡ 11
+wants_written was is rose files o status wants written =
+    refusal_status was is rose o status (ap (λ (o : Outcome). o.kind) wants.3) written ∙ ap (λ (o : Outcome). code_of o.status) wants.3
+
+refused_status : (was is : Option Text) (rose : Type 0) (files : List (Text × Text)) (o : Outcome) (status : ℕ) → Refuses files o →
+    Writes was is rose o status → (status ≢ 0) × (status ≢ 1) × (status ≢ 9)
+refused_status was is rose files o status refuses written =
+    let code = refusal_status was is rose o status refuses.kind written in (
+      (λ e. refuses.done (code_zero o.status (sym code ∙ e))),
+      (λ e. refuses.usage (code_one o.status (sym code ∙ e))),
+      (λ e. refuses.write (code_nine o.status (sym code ∙ e))),
+    )
+
+-- The usage.
+
+none_asked : {R : Type 0} (asks : R → Type 0) (ends : Option Holding → Type 0 → R → Outcome → Type 0) (files : R → List (Text × Text)) →
+    IsSettled asks ends files → (told : Option Holding) (rose fell : Type 0) (was is : Option Text) (o : Outcome) (status : ℕ) →
+    Asked asks (ends told rose) files o → Writes was is fell o status → status ≡ 1 → (request : R) → ¬ (asks request)
+none_asked asks ends files settled told rose fell was is o status (inl ran_out) written one =
     absurd (let eleven = ran_out_written was is fell o status ran_out written in omega (arith, eleven, one))
-none_asked asks ends settled told rose fell was is o status (inr (inl nothing)) written one = nothing.0
-none_asked asks ends settled told rose fell was is o status (inr (inr (r, asked, end))) written one =
-    absurd (not_one was is fell o status (settled.fair told rose r o end).0 written one)
+none_asked asks ends files settled told rose fell was is o status (inr (inl nothing)) written one = nothing.0
+none_asked asks ends files settled told rose fell was is o status (inr (inr (r, asked, inr wants))) written one =
+    absurd (let eleven = wants_written was is fell (files r) o status wants written in omega (arith, eleven, one))
+none_asked asks ends files settled told rose fell was is o status (inr (inr (r, asked, inl end))) written one =
+    absurd (by_kind (settled.fair told rose r o end))
+  where
+    by_kind : Refuses (files r) o ⊎ Gives (files r) (ends told ⊥ r) o → ⊥
+    by_kind (inl refuses) = (refused_status was is fell (files r) o status refuses written).1 one
+    by_kind (inr gives) = by_status (report_status was is fell o status gives.kind gives.status written)
+      where
+        by_status : ((status ≡ 0) × (is ≡ with_more was o.text)) ⊎ (status ≡ 9) → ⊥
+        by_status (inl zero) = (let e = zero.0 in omega (arith, e, one))
+        by_status (inr nine) = omega (arith, nine, one)
 
-one_answered : {R : Type 0} (asks : R → Type 0) (ends : R → Outcome → Type 0) (fell : Type 0) (was is : Option Text)
-    (o : Outcome) (status : ℕ) → Asked asks ends o → Writes was is fell o status → ((request : R) → ¬ (asks request)) →
-    (status ≡ 1) ⊎ (status ≡ 11)
-one_answered asks ends fell was is o status (inl ran_out) written none = inr (ran_out_written was is fell o status ran_out written)
-one_answered asks ends fell was is o status (inr (inl nothing)) written none = inl (nothing_written was is fell o status nothing.1 written)
-one_answered asks ends fell was is o status (inr (inr (r, asked, end))) written none = absurd (none r asked)
+one_answered : {R : Type 0} (asks : R → Type 0) (ends : R → Outcome → Type 0) (files : R → List (Text × Text)) (fell : Type 0)
+    (was is : Option Text) (o : Outcome) (status : ℕ) → Asked asks ends files o → Writes was is fell o status →
+    ((request : R) → ¬ (asks request)) → (status ≡ 1) ⊎ (status ≡ 11)
+one_answered asks ends files fell was is o status (inl ran_out) written none = inr (ran_out_written was is fell o status ran_out written)
+one_answered asks ends files fell was is o status (inr (inl nothing)) written none = inl (nothing_written was is fell o status nothing.1 written)
+one_answered asks ends files fell was is o status (inr (inr (r, asked, end))) written none = absurd (none r asked)
 
-pub usage_exactly : {R : Type 0} (asks : R → Type 0) (ends : Option Holding → Type 0 → R → Outcome → Type 0) → IsSettled asks ends →
-    (before after : Outside) (status : ℕ) →
-    Ended (Asked asks (ends before.held (Rose before.file_faults after.file_faults))) before after status → IsUsage asks status
-usage_exactly asks ends settled before after status ended =
+pub usage_exactly : {R : Type 0} (asks : R → Type 0) (ends : Option Holding → Type 0 → R → Outcome → Type 0)
+    (files : R → List (Text × Text)) → IsSettled asks ends files → (before after : Outside) (status : ℕ) →
+    Ended (Asked asks (ends before.held (Rose before.file_faults after.file_faults)) files) before after status → IsUsage asks status
+usage_exactly asks ends files settled before after status ended =
     let rose = Rose before.file_faults after.file_faults in
     let fell = Rose before.out_faults after.out_faults in (
-      none_asked asks ends settled before.held rose fell before.appended after.appended ended.outcome status ended.cause ended.written,
-      one_answered asks (ends before.held rose) fell before.appended after.appended ended.outcome status ended.cause ended.written,
+      none_asked asks ends files settled before.held rose fell before.appended after.appended ended.outcome status ended.cause ended.written,
+      one_answered asks (ends before.held rose) files fell before.appended after.appended ended.outcome status ended.cause ended.written,
     )
 
 -- Status 0.
 
-whole_written : {R : Type 0} (asks : R → Type 0) (ends : Option Holding → Type 0 → R → Outcome → Type 0) → IsSettled asks ends →
-    (told : Option Holding) (rose fell : Type 0) (was is : Option Text) (r : R) (o : Outcome) (status : ℕ) →
-    ends told rose r o → Writes was is fell o status → status ≡ 0 →
-    (o.kind ≡ report) × ends told ⊥ r o × (is ≡ with_more was o.text)
-whole_written asks ends settled told rose fell was is r o status end (inl w) zero =
-    let fair = (settled.fair told rose r o end).1 (code_zero o.status (sym w.1 ∙ zero)) in
-    (fair.0, fair.1, w.0)
-whole_written asks ends settled told rose fell was is r o status end (inr w) zero =
-    let cut = cut_zero o.kind o.status (sym w.2 ∙ zero) in
-    let fair = (settled.fair told rose r o end).1 cut.0 in
-    absurd (let is : report ≡ refusal = sym fair.0 ∙ cut.1 in cc)
+-- the words ask for something, and the report to which they lead was appended
+abbrev IsWhole : {R : Type 0} → (R → Type 0) → (R → Outcome → Type 0) → Option Text → Option Text → Type 0
+IsWhole {R} asks ends was is =
+    (request : R) × asks request × (end : Outcome) × (end.kind ≡ report) × ends request end × (is ≡ with_more was end.text)
 
-zero_answered : {R : Type 0} (asks : R → Type 0) (ends : Option Holding → Type 0 → R → Outcome → Type 0) → IsSettled asks ends →
-    (told : Option Holding) (rose fell : Type 0) (was is : Option Text) (o : Outcome) (status : ℕ) →
-    Asked asks (ends told rose) o → Writes was is fell o status → status ≡ 0 →
-    (request : R) × asks request × (end : Outcome) × (end.kind ≡ report) × ends told ⊥ request end × (is ≡ with_more was end.text)
-zero_answered asks ends settled told rose fell was is o status (inl ran_out) written zero =
+zero_answered : {R : Type 0} (asks : R → Type 0) (ends : Option Holding → Type 0 → R → Outcome → Type 0) (files : R → List (Text × Text)) →
+    IsSettled asks ends files → (told : Option Holding) (rose fell : Type 0) (was is : Option Text) (o : Outcome) (status : ℕ) →
+    Asked asks (ends told rose) files o → Writes was is fell o status → status ≡ 0 →
+    IsWhole asks (ends told ⊥) was is
+zero_answered asks ends files settled told rose fell was is o status (inl ran_out) written zero =
     absurd (let eleven = ran_out_written was is fell o status ran_out written in omega (arith, eleven, zero))
-zero_answered asks ends settled told rose fell was is o status (inr (inl nothing)) written zero =
+zero_answered asks ends files settled told rose fell was is o status (inr (inl nothing)) written zero =
     absurd (let one = nothing_written was is fell o status nothing.1 written in omega (arith, one, zero))
-zero_answered asks ends settled told rose fell was is o status (inr (inr (r, asked, end))) written zero =
-    let whole = whole_written asks ends settled told rose fell was is r o status end written zero in
-    (r, asked, o, whole.0, whole.1, whole.2)
+zero_answered asks ends files settled told rose fell was is o status (inr (inr (r, asked, inr wants))) written zero =
+    absurd (let eleven = wants_written was is fell (files r) o status wants written in omega (arith, eleven, zero))
+zero_answered {R} asks ends files settled told rose fell was is o status (inr (inr (r, asked, inl end))) written zero =
+    by_kind (settled.fair told rose r o end)
+  where
+    by_kind : Refuses (files r) o ⊎ Gives (files r) (ends told ⊥ r) o → IsWhole asks (ends told ⊥) was is
+    by_kind (inl refuses) = absurd ((refused_status was is fell (files r) o status refuses written).0 zero)
+    by_kind (inr gives) = by_status (report_status was is fell o status gives.kind gives.status written)
+      where
+        by_status : ((status ≡ 0) × (is ≡ with_more was o.text)) ⊎ (status ≡ 9) → IsWhole asks (ends told ⊥) was is
+        by_status (inl whole) = (r, asked, o, gives.kind, gives.fair, whole.1)
+        by_status (inr nine) = absurd (omega (arith, nine, zero))
 
-pub done_exactly : {R : Type 0} (asks : R → Type 0) (ends : Option Holding → Type 0 → R → Outcome → Type 0) → IsSettled asks ends →
-    (before after : Outside) (status : ℕ) →
-    Ended (Asked asks (ends before.held (Rose before.file_faults after.file_faults))) before after status → IsDone asks ends before after status
-done_exactly asks ends settled before after status ended =
-    zero_answered asks ends settled before.held (Rose before.file_faults after.file_faults) (Rose before.out_faults after.out_faults)
+pub done_exactly : {R : Type 0} (asks : R → Type 0) (ends : Option Holding → Type 0 → R → Outcome → Type 0)
+    (files : R → List (Text × Text)) → IsSettled asks ends files → (before after : Outside) (status : ℕ) →
+    Ended (Asked asks (ends before.held (Rose before.file_faults after.file_faults)) files) before after status →
+    IsDone asks ends before after status
+done_exactly asks ends files settled before after status ended =
+    zero_answered asks ends files settled before.held (Rose before.file_faults after.file_faults) (Rose before.out_faults after.out_faults)
     before.appended after.appended ended.outcome status ended.cause ended.written
 
 -- Completeness.
@@ -124,26 +158,121 @@ whole_or_cut : (was is : Option Text) (fell : Type 0) (o : Outcome) (status : �
 whole_or_cut was is fell o status quiet (inl w) = (w.1, w.0)
 whole_or_cut was is fell o status quiet (inr w) = absurd (quiet w.0)
 
-led : {R : Type 0} (asks : R → Type 0) (ends : Option Holding → Type 0 → R → Outcome → Type 0) → IsSettled asks ends →
-    (held : Holding) (rose fell : Type 0) (was is : Option Text) (o : Outcome) (status : ℕ) →
-    Asked asks (ends (Some held) rose) o → Writes was is fell o status → ¬ rose → ¬ fell →
+led : {R : Type 0} (asks : R → Type 0) (ends : Option Holding → Type 0 → R → Outcome → Type 0) (files : R → List (Text × Text)) →
+    IsSettled asks ends files → (held : Holding) (rose fell : Type 0) (was is : Option Text) (o : Outcome) (status : ℕ) →
+    Asked asks (ends (Some held) rose) files o → Writes was is fell o status → ¬ rose → ¬ fell →
     (request : R) → asks request → (end : Outcome) → ends (Some held) ⊥ request end →
     ((status ≡ code_of end.status) × (is ≡ with_more was end.text)) ⊎ (status ≡ 11)
-led asks ends settled held rose fell was is o status (inl ran_out) written quiet still request asked end leads =
+led asks ends files settled held rose fell was is o status (inl ran_out) written quiet still request asked end leads =
     inr (ran_out_written was is fell o status ran_out written)
-led asks ends settled held rose fell was is o status (inr (inl nothing)) written quiet still request asked end leads =
+led asks ends files settled held rose fell was is o status (inr (inl nothing)) written quiet still request asked end leads =
     absurd (nothing.0 request asked)
-led asks ends settled held rose fell was is o status (inr (inr (r, asks_r, came))) written quiet still request asked end leads =
+led asks ends files settled held rose fell was is o status (inr (inr (r, asks_r, inr wants))) written quiet still request asked end leads =
+    inr (wants_written was is fell (files r) o status wants written)
+led asks ends files settled held rose fell was is o status (inr (inr (r, asks_r, inl came))) written quiet still request asked end leads =
     let same = settled.one r request asks_r asked in
     let came_too = subst (λ r. ends (Some held) rose r o) same came in
     let agree = settled.agree held rose request quiet o end came_too leads in
     inl (whole_or_cut was is fell end status still (subst (λ o. Writes was is fell o status) agree written))
 
-pub complete_exactly : {R : Type 0} (asks : R → Type 0) (ends : Option Holding → Type 0 → R → Outcome → Type 0) → IsSettled asks ends →
-    (before after : Outside) (status : ℕ) →
-    Ended (Asked asks (ends before.held (Rose before.file_faults after.file_faults))) before after status →
+pub complete_exactly : {R : Type 0} (asks : R → Type 0) (ends : Option Holding → Type 0 → R → Outcome → Type 0)
+    (files : R → List (Text × Text)) → IsSettled asks ends files → (before after : Outside) (status : ℕ) →
+    Ended (Asked asks (ends before.held (Rose before.file_faults after.file_faults)) files) before after status →
     IsComplete asks ends before after status
-complete_exactly asks ends settled before after status ended = λ held told quiet still.
+complete_exactly asks ends files settled before after status ended = λ held told quiet still.
     let rose = Rose before.file_faults after.file_faults in
-    led asks ends settled held rose (Rose before.out_faults after.out_faults) before.appended after.appended ended.outcome status
-    (subst (λ told. Asked asks (ends told rose) ended.outcome) told ended.cause) ended.written quiet still
+    led asks ends files settled held rose (Rose before.out_faults after.out_faults) before.appended after.appended ended.outcome status
+    (subst (λ told. Asked asks (ends told rose) files ended.outcome) told ended.cause) ended.written quiet still
+
+-- What files hold.
+
+nothing_stored : {R : Type 0} (asks : R → Type 0) (files : R → List (Text × Text)) (before after : Option Holding) (o : Outcome)
+    (status : ℕ) → o.stored ≡ [] → o.torn ≡ None → AreLeft before after o.stored o.torn → status ≢ 0 → status ≢ 9 →
+    IsStored asks files before after status
+nothing_stored {R} asks files before after o status stored torn left zero nine = record {
+  stored = o.stored;
+  torn = o.torn;
+  left = left;
+  some = inl (stored, torn);
+  all = all;
+  none = λ one. (stored, torn);
+}
+  where
+    all : (status ≡ 0) ⊎ (status ≡ 9) → (request : R) × asks request × (o.stored ≡ files request) × (o.torn ≡ None)
+    all (inl e) = absurd (zero e)
+    all (inr e) = absurd (nine e)
+
+some_stored : {R : Type 0} (asks : R → Type 0) (files : R → List (Text × Text)) (before after : Option Holding) (o : Outcome)
+    (status : ℕ) (r : R) → asks r → AreFirst (files r) o.stored o.torn → AreLeft before after o.stored o.torn →
+    status ≢ 0 → status ≢ 1 → status ≢ 9 → IsStored asks files before after status
+some_stored {R} asks files before after o status r asked first left zero one nine = record {
+  stored = o.stored;
+  torn = o.torn;
+  left = left;
+  some = inr (r, asked, first);
+  all = all;
+  none = λ e. absurd (one e);
+}
+  where
+    all : (status ≡ 0) ⊎ (status ≡ 9) → (request : R) × asks request × (o.stored ≡ files request) × (o.torn ≡ None)
+    all (inl e) = absurd (zero e)
+    all (inr e) = absurd (nine e)
+
+all_stored : {R : Type 0} (asks : R → Type 0) (files : R → List (Text × Text)) (before after : Option Holding) (o : Outcome)
+    (status : ℕ) (r : R) → asks r → o.stored ≡ files r → o.torn ≡ None → AreLeft before after o.stored o.torn →
+    status ≢ 1 → IsStored asks files before after status
+all_stored asks files before after o status r asked stored torn left one = record {
+  stored = o.stored;
+  torn = o.torn;
+  left = left;
+  some = inr (r, asked, first);
+  all = λ e. (r, asked, stored, torn);
+  none = λ e. absurd (one e);
+}
+  where
+    first : AreFirst (files r) o.stored o.torn
+    first = subst (λ fs. AreFirst (files r) fs o.torn) (sym stored) (subst (λ t. AreFirst (files r) (files r) t) (sym torn) (all_first (files r)))
+
+wants_first : (files : List (Text × Text)) (o : Outcome) → Wants files o → AreFirst files o.stored o.torn
+wants_first files o wants =
+    subst (λ fs. AreFirst files fs o.torn) (sym (ap (λ (o : Outcome). o.stored) wants.3))
+    (subst (λ t. AreFirst files wants.0 t) (sym (ap (λ (o : Outcome). o.torn) wants.3)) wants.2)
+
+left_by : {R : Type 0} (asks : R → Type 0) (ends : Option Holding → Type 0 → R → Outcome → Type 0) (files : R → List (Text × Text)) →
+    IsSettled asks ends files → (told : Option Holding) (rose fell : Type 0) (was is : Option Text) (before after : Option Holding)
+    (o : Outcome) (status : ℕ) → Asked asks (ends told rose) files o → Writes was is fell o status →
+    AreLeft before after o.stored o.torn → IsStored asks files before after status
+left_by asks ends files settled told rose fell was is before after o status (inl ran_out) written left =
+    let eleven = ran_out_written was is fell o status ran_out written in
+    nothing_stored asks files before after o status (ap (λ (o : Outcome). o.stored) ran_out) (ap (λ (o : Outcome). o.torn) ran_out) left
+    (λ e. omega (arith, eleven, e)) (λ e. omega (arith, eleven, e))
+left_by asks ends files settled told rose fell was is before after o status (inr (inl nothing)) written left =
+    let one = nothing_written was is fell o status nothing.1 written in
+    nothing_stored asks files before after o status (ap (λ (o : Outcome). o.stored) nothing.1) (ap (λ (o : Outcome). o.torn) nothing.1) left
+    (λ e. omega (arith, one, e)) (λ e. omega (arith, one, e))
+left_by asks ends files settled told rose fell was is before after o status (inr (inr (r, asked, inr wants))) written left =
+    let eleven = wants_written was is fell (files r) o status wants written in
+    some_stored asks files before after o status r asked (wants_first (files r) o wants) left
+    (λ e. omega (arith, eleven, e)) (λ e. omega (arith, eleven, e)) (λ e. omega (arith, eleven, e))
+left_by asks ends files settled told rose fell was is before after o status (inr (inr (r, asked, inl end))) written left =
+    by_kind (settled.fair told rose r o end)
+  where
+    by_kind : Refuses (files r) o ⊎ Gives (files r) (ends told ⊥ r) o → IsStored asks files before after status
+    by_kind (inl refuses) =
+        let other = refused_status was is fell (files r) o status refuses written in
+        some_stored asks files before after o status r asked refuses.some left other.0 other.1 other.2
+    by_kind (inr gives) =
+        all_stored asks files before after o status r asked gives.stored gives.torn left
+        (by_status (report_status was is fell o status gives.kind gives.status written))
+      where
+        by_status : ((status ≡ 0) × (is ≡ with_more was o.text)) ⊎ (status ≡ 9) → status ≢ 1
+        by_status (inl zero) = λ one. (let e = zero.0 in omega (arith, e, one))
+        by_status (inr nine) = λ one. omega (arith, nine, one)
+
+pub stored_exactly : {R : Type 0} (asks : R → Type 0) (ends : Option Holding → Type 0 → R → Outcome → Type 0)
+    (files : R → List (Text × Text)) → IsSettled asks ends files → (before after : Outside) (status : ℕ) →
+    Ended (Asked asks (ends before.held (Rose before.file_faults after.file_faults)) files) before after status →
+    IsStored asks files before.held after.held status
+stored_exactly asks ends files settled before after status ended =
+    left_by asks ends files settled before.held (Rose before.file_faults after.file_faults) (Rose before.out_faults after.out_faults)
+    before.appended after.appended before.held after.held ended.outcome status ended.cause ended.written ended.left

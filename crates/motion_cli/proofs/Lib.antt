@@ -7,3 +7,4 @@ pub mod ProgramLemmas
 pub mod SettledLemmas
 pub mod AnswerLemmas
 pub mod WordsLemmas
+pub mod PartsLemmas

@@ -1,8 +1,8 @@
 -- What the words and the files of a call settle.
-use Rattle.std.proofs.Common.{ℕ, ◌≡◌, ◌≢◌, inl, inr, Bool, List, [], Option, Some, None, sym, ap, subst, ◌∙◌, arith}
-use Rattle.std.specs.Fmt.{decimal}
-use Rattle.std.specs.Prelude.{◌++◌, codes, IsSomeAnd, map, false}
+use Rattle.std.proofs.Common.{ℕ, ◌≡◌, ◌≢◌, ◌<◌, ◌⊎◌, inl, inr, Bool, List, [], take, Option, Some, None, refl, sym, ap, subst, ◌∙◌, arith}
+use Rattle.std.specs.Prelude.{◌++◌, codes, IsSomeAnd, map, slice_get, option_map, false}
 use Rattle.mot_base.specs.Files.{Holding, IsTooLong}
+use Rattle.mot_base.specs.Limits.{most_file_bytes}
 use Rattle.share_types.specs.Bits.{number}
 use Rattle.text_lines.specs.Text.{Text}
 use Rattle.text_lines.specs.LineReader.{LineReader, FirstFaultOf}
@@ -19,20 +19,24 @@ use Rattle.mixed_circuit.specs.Grammar.{circuits}
 use Rattle.mixed_circuit.specs.Table.{inputs_of}
 use Rattle.mixed_circuit.specs.Eval.{told_of}
 use Rattle.mixed_circuit.proofs.EvalLemmas.{evaluates_once}
-use Rattle.motion_cli.specs.declared.status.Status.TheVariants.{Done, Usage, File}
+use Rattle.motion_cli.specs.declared.status.Status.TheVariants.{Done, Usage, File, Write}
 use Rattle.motion_cli.specs.declared.status.Status.TheVariants as status
 use Rattle.motion_cli.specs.declared.report.Notation.TheVariants.{Decimal}
-use Rattle.motion_cli.specs.Commands.{ReadsCircuit, ReadsInputs, Reports, LoadsBoth, HasTooMany, gates_refused, PlainReads, PlainEnds, NeedsReads, NeedsEnds, LocalReads, LocalEnds, RequestEnds}
+use Rattle.motion_cli.specs.Commands.{ReadsCircuit, ReadsInputs, Reports, LoadsBoth, HasTooMany, gates_refused, PlainReads, PlainEnds, NeedsReads, NeedsEnds, DealEnds, LocalReads, LocalEnds, RequestEnds, request_files}
+use Rattle.motion_cli.specs.Ending.{AreFirst, no_files}
 use Rattle.motion_cli.specs.Outcome.{Outcome, file_refused, circuit_refused, values_refused, reported, at_line, line}
-use Rattle.motion_cli.specs.Outcome.Kind.{report}
+use Rattle.motion_cli.specs.Outcome.Kind.{report, refusal}
+use Rattle.motion_cli.specs.Parts.{part_name, part_files, part_length, deal_files, deal_id, dealt_line}
 use Rattle.motion_cli.specs.Refusal.{circuit_cause, values_cause}
 use Rattle.gate_plan.specs.Lowering.{all_gates, all_built, lowered}
+use Rattle.std.specs.Fmt.{decimal}
 use Rattle.motion_cli.specs.Report.{output_lines, parties_report, needs_report}
 use Rattle.motion_cli.specs.Run.{is_built}
-use Rattle.cli_words.specs.Request.{Request, PlainRequest, NeedsRequest, LocalRequest, plain, needs, deal, local}
-use Rattle.motion_cli.specs.Words.{AsksFor, AsksPlain, AsksNeeds, AsksLocal}
-use Rattle.motion_cli.proofs.WordsLemmas.{asked_once, plain_once, needs_once, local_once}
-use Rattle.motion_cli.specs.Steps.{Fault, IsContent, IsUnloaded, Loads, ReadsAs, Unless}
+use Rattle.cli_words.specs.Request.{Request, PlainRequest, NeedsRequest, DealRequest, LocalRequest, plain, needs, deal, local}
+use Rattle.motion_cli.specs.Words.{AsksFor, AsksPlain, AsksNeeds, AsksDeal, AsksLocal}
+use Rattle.motion_cli.proofs.PartsLemmas.{stored_files}
+use Rattle.motion_cli.proofs.WordsLemmas.{asked_once, plain_once, needs_once, deal_once, local_once}
+use Rattle.motion_cli.specs.Steps.{Fault, IsContent, IsUnloaded, Loads, ReadsAs, Unless, StoresAll}
 
 -- Two ways to an outcome lead to the same one.
 
@@ -100,50 +104,124 @@ unless_agree cause answer P Q next x y (inl m) (inr n) = absurd (n.0 m.0)
 unless_agree cause answer P Q next x y (inr m) (inl n) = absurd (m.0 n.0)
 unless_agree cause answer P Q next x y (inr m) (inr n) = next x y m.1 n.1
 
--- An outcome never has the status of the usage; and where its status is 0, it is a report, and hangs on no fault.
+-- Each outcome of a command is a refusal, where some first ones of its files are stored; or it is a report, where all
+-- are, and which hangs on no fault.
 
-abbrev pub Fair : (Outcome → Type 0) → (Outcome → Type 0) → Type 0
-Fair P Q = (x : Outcome) → P x → (x.status ≢ Usage) × (x.status ≡ Done → (x.kind ≡ report) × Q x)
+pub record Refuses (files : List (Text × Text)) (x : Outcome) : Type 0 where
+  pub kind : x.kind ≡ refusal
+  pub usage : x.status ≢ Usage
+  pub done : x.status ≢ Done
+  pub write : x.status ≢ Write
+  pub some : AreFirst files x.stored x.torn
 
-abbrev pub Refusing : Outcome → Type 0
-Refusing x = (x.status ≢ Usage) × (x.status ≢ Done)
+pub record Gives (files : List (Text × Text)) (Q : Outcome → Type 0) (x : Outcome) : Type 0 where
+  pub kind : x.kind ≡ report
+  pub status : x.status ≡ Done
+  pub stored : x.stored ≡ files
+  pub torn : x.torn ≡ None
+  pub fair : Q x
 
-refused_fair : (Q : Outcome → Type 0) (x y : Outcome) → x ≡ y → Refusing y →
-    (x.status ≢ Usage) × (x.status ≡ Done → (x.kind ≡ report) × Q x)
-refused_fair Q x y e refusing =
-    let here : Refusing x = subst (λ o. Refusing o) (sym e) refusing in
-    (here.0, λ done. absurd (here.1 done))
+abbrev pub Fair : List (Text × Text) → (Outcome → Type 0) → (Outcome → Type 0) → Type 0
+Fair files P Q = (x : Outcome) → P x → Refuses files x ⊎ Gives files Q x
 
-file_refusing : (name text : Text) → Refusing (file_refused name text)
-file_refusing name text = ((λ e. let is : File ≡ Usage = e in cc), (λ e. let is : File ≡ Done = e in cc))
+carried : (files : List (Text × Text)) (Q R : Outcome → Type 0) (x : Outcome) → (Q x → R x) →
+    Refuses files x ⊎ Gives files Q x → Refuses files x ⊎ Gives files R x
+carried files Q R x f (inl refuses) = inl refuses
+carried files Q R x f (inr gives) = inr (record {
+  kind = gives.kind;
+  status = gives.status;
+  stored = gives.stored;
+  torn = gives.torn;
+  fair = f gives.fair;
+})
 
-loads_fair : (told : Option Holding) (rose : Type 0) (name : Text) (P Q : Text → Outcome → Type 0) →
-    ((c : Text) → Fair (P c) (Q c)) → Fair (Loads told rose name P) (Loads told ⊥ name Q)
-loads_fair told rose name P Q next x (inl (inl m)) =
-    refused_fair (Loads told ⊥ name Q) x (file_refused name (codes "missing")) m.1 (file_refusing name (codes "missing"))
-loads_fair told rose name P Q next x (inl (inr (inl m))) =
-    refused_fair (Loads told ⊥ name Q) x (file_refused name (codes "too long")) m.1 (file_refusing name (codes "too long"))
-loads_fair told rose name P Q next x (inl (inr (inr m))) =
-    refused_fair (Loads told ⊥ name Q) x (file_refused name (codes "fault")) m.1 (file_refusing name (codes "fault"))
-loads_fair told rose name P Q next x (inr m) =
-    let fair = next m.0 x m.2 in
-    (fair.0, λ done. ((fair.1 done).0, inr (m.0, m.1, (fair.1 done).1)))
+refuses_so : (files : List (Text × Text)) (Q : Outcome → Type 0) (x y : Outcome) → x ≡ y → Refuses files y →
+    Refuses files x ⊎ Gives files Q x
+refuses_so files Q x y e refuses = inl (subst (λ o. Refuses files o) (sym e) refuses)
 
-reads_fair : {F C : Type 0} (faulty : F → Type 0) (refusal_of : F → Outcome) (reads : C → Type 0) (P Q : C → Outcome → Type 0) →
-    ((f : F) → Refusing (refusal_of f)) → ((c : C) → Fair (P c) (Q c)) →
-    Fair (ReadsAs faulty refusal_of reads P) (ReadsAs faulty refusal_of reads Q)
-reads_fair faulty refusal_of reads P Q refusing next x (inl m) =
-    refused_fair (ReadsAs faulty refusal_of reads Q) x (refusal_of m.0) m.2 (refusing m.0)
-reads_fair faulty refusal_of reads P Q refusing next x (inr m) =
-    let fair = next m.0 x m.2 in
-    (fair.0, λ done. ((fair.1 done).0, inr (m.0, m.1, (fair.1 done).1)))
+file_refuses : (files : List (Text × Text)) (name text : Text) → Refuses files (file_refused name text)
+file_refuses files name text = record {
+  kind = refl;
+  usage = λ e. let is : File ≡ Usage = e in cc;
+  done = λ e. let is : File ≡ Done = e in cc;
+  write = λ e. let is : File ≡ Write = e in cc;
+  some = inl (refl, refl);
+}
 
-unless_fair : (cause : Type 0) (answer : Outcome) (P Q : Outcome → Type 0) → Refusing answer → Fair P Q →
-    Fair (Unless cause answer P) (Unless cause answer Q)
-unless_fair cause answer P Q refusing next x (inl m) = refused_fair (Unless cause answer Q) x answer m.1 refusing
-unless_fair cause answer P Q refusing next x (inr m) =
-    let fair = next x m.1 in
-    (fair.0, λ done. ((fair.1 done).0, inr (m.0, (fair.1 done).1)))
+circuit_refuses : (files : List (Text × Text)) (name rest : Text) → Refuses files (circuit_refused name rest)
+circuit_refuses files name rest = record {
+  kind = refl;
+  usage = λ e. let is : status.Circuit ≡ Usage = e in cc;
+  done = λ e. let is : status.Circuit ≡ Done = e in cc;
+  write = λ e. let is : status.Circuit ≡ Write = e in cc;
+  some = inl (refl, refl);
+}
+
+gates_refuses : (name : Text) (c : Circuit) → Refuses [] (gates_refused name c)
+gates_refuses name c = circuit_refuses [] name (codes "gates " ++ line (decimal (all_gates c)))
+
+values_refuses : (files : List (Text × Text)) (name rest : Text) → Refuses files (values_refused name rest)
+values_refuses files name rest = record {
+  kind = refl;
+  usage = λ e. let is : status.Values ≡ Usage = e in cc;
+  done = λ e. let is : status.Values ≡ Done = e in cc;
+  write = λ e. let is : status.Values ≡ Write = e in cc;
+  some = inl (refl, refl);
+}
+
+loads_fair : (files : List (Text × Text)) (told : Option Holding) (rose : Type 0) (name : Text) (P Q : Text → Outcome → Type 0) →
+    ((c : Text) → Fair files (P c) (Q c)) → Fair files (Loads told rose name P) (Loads told ⊥ name Q)
+loads_fair files told rose name P Q next x (inl (inl m)) =
+    refuses_so files (Loads told ⊥ name Q) x (file_refused name (codes "missing")) m.1 (file_refuses files name (codes "missing"))
+loads_fair files told rose name P Q next x (inl (inr (inl m))) =
+    refuses_so files (Loads told ⊥ name Q) x (file_refused name (codes "too long")) m.1 (file_refuses files name (codes "too long"))
+loads_fair files told rose name P Q next x (inl (inr (inr m))) =
+    refuses_so files (Loads told ⊥ name Q) x (file_refused name (codes "fault")) m.1 (file_refuses files name (codes "fault"))
+loads_fair files told rose name P Q next x (inr m) =
+    carried files (Q m.0) (Loads told ⊥ name Q) x (λ q. inr (m.0, m.1, q)) (next m.0 x m.2)
+
+reads_fair : {F C : Type 0} (files : List (Text × Text)) (faulty : F → Type 0) (refusal_of : F → Outcome) (reads : C → Type 0)
+    (P Q : C → Outcome → Type 0) → ((f : F) → Refuses files (refusal_of f)) → ((c : C) → Fair files (P c) (Q c)) →
+    Fair files (ReadsAs faulty refusal_of reads P) (ReadsAs faulty refusal_of reads Q)
+reads_fair files faulty refusal_of reads P Q refusing next x (inl m) =
+    refuses_so files (ReadsAs faulty refusal_of reads Q) x (refusal_of m.0) m.2 (refusing m.0)
+reads_fair files faulty refusal_of reads P Q refusing next x (inr m) =
+    carried files (Q m.0) (ReadsAs faulty refusal_of reads Q) x (λ q. inr (m.0, m.1, q)) (next m.0 x m.2)
+
+unless_fair : (files : List (Text × Text)) (cause : Type 0) (answer : Outcome) (P Q : Outcome → Type 0) → Refuses files answer →
+    Fair files P Q → Fair files (Unless cause answer P) (Unless cause answer Q)
+unless_fair files cause answer P Q refusing next x (inl m) = refuses_so files (Unless cause answer Q) x answer m.1 refusing
+unless_fair files cause answer P Q refusing next x (inr m) =
+    carried files Q (Unless cause answer Q) x (λ q. inr (m.0, q)) (next x m.1)
+
+stores_agree : (files : List (Text × Text)) (done : Outcome) (rose other : Type 0) → ¬ rose → ¬ other →
+    Agree (StoresAll rose files done) (StoresAll other files done)
+stores_agree files done rose other quiet still x y (inl m) (inl n) = m ∙ sym n
+stores_agree files done rose other quiet still x y (inl m) (inr n) = absurd (still n.0)
+stores_agree files done rose other quiet still x y (inr m) second = absurd (quiet m.0)
+
+stopped_refuses : (files : List (Text × Text)) (at : ℕ) (file : Text × Text) → slice_get files at ≡ Some file →
+    Refuses files (record (file_refused file.0 (codes "fault")) { stored = take at files; torn = Some file.0 })
+stopped_refuses files at file there = record {
+  kind = refl;
+  usage = λ e. let is : File ≡ Usage = e in cc;
+  done = λ e. let is : File ≡ Done = e in cc;
+  write = λ e. let is : File ≡ Write = e in cc;
+  some = inr (at, refl, sym (ap (option_map (λ (f : Text × Text). f.0)) there));
+}
+
+stores_fair : (files : List (Text × Text)) (text : Text) (rose : Type 0) →
+    Fair files (StoresAll rose files (reported text)) (StoresAll ⊥ files (reported text))
+stores_fair files text rose x (inl m) = inr (record {
+  kind = ap (λ (o : Outcome). o.kind) m;
+  status = ap (λ (o : Outcome). o.status) m;
+  stored = ap (λ (o : Outcome). o.stored) m;
+  torn = ap (λ (o : Outcome). o.torn) m;
+  fair = inl m;
+})
+stores_fair files text rose x (inr m) =
+    refuses_so files (StoresAll ⊥ files (reported text)) x
+    (record (file_refused m.2.0 (codes "fault")) { stored = take m.1 files; torn = Some m.2.0 }) m.4 (stopped_refuses files m.1 m.2 m.3)
 
 -- The commands.
 
@@ -153,20 +231,14 @@ reports_agree c v text x y m n =
     let outputs = m.1.told ∙ (ap (told_of c) same ∙ sym n.1.told) in
     m.2 ∙ (ap (λ o. reported (text o)) outputs ∙ sym n.2)
 
-reports_fair : (c : Circuit) (v : List (List Bool)) (text : List Told → Text) → Fair (Reports c v text) (Reports c v text)
-reports_fair c v text x m = (
-  (λ e. let is : Done ≡ Usage = sym (ap (λ (o : Outcome). o.status) m.2) ∙ e in cc),
-  (λ done. (ap (λ (o : Outcome). o.kind) m.2, m)),
-)
-
-circuit_refusing : (name rest : Text) → Refusing (circuit_refused name rest)
-circuit_refusing name rest = ((λ e. let is : status.Circuit ≡ Usage = e in cc), (λ e. let is : status.Circuit ≡ Done = e in cc))
-
-gates_refusing : (name : Text) (c : Circuit) → Refusing (gates_refused name c)
-gates_refusing name c = circuit_refusing name (codes "gates " ++ line (decimal (all_gates c)))
-
-values_refusing : (name rest : Text) → Refusing (values_refused name rest)
-values_refusing name rest = ((λ e. let is : status.Values ≡ Usage = e in cc), (λ e. let is : status.Values ≡ Done = e in cc))
+reports_fair : (c : Circuit) (v : List (List Bool)) (text : List Told → Text) → Fair [] (Reports c v text) (Reports c v text)
+reports_fair c v text x m = inr (record {
+  kind = ap (λ (o : Outcome). o.kind) m.2;
+  status = ap (λ (o : Outcome). o.status) m.2;
+  stored = ap (λ (o : Outcome). o.stored) m.2;
+  torn = ap (λ (o : Outcome). o.torn) m.2;
+  fair = m;
+})
 
 abbrev circuit_fault : Text → Fault CircuitCause → Outcome
 circuit_fault name f = circuit_refused name (at_line f.line (circuit_cause f.cause))
@@ -178,11 +250,11 @@ circuit_agree : (name text : Text) (P Q : Circuit → Outcome → Type 0) → ((
     Agree (ReadsCircuit name text P) (ReadsCircuit name text Q)
 circuit_agree name text P Q next = reads_agree Stage Circuit CircuitCause circuits text (circuit_fault name) P Q next
 
-circuit_fair : (name text : Text) (P Q : Circuit → Outcome → Type 0) → ((c : Circuit) → Fair (P c) (Q c)) →
-    Fair (ReadsCircuit name text P) (ReadsCircuit name text Q)
+circuit_fair : (name text : Text) (P Q : Circuit → Outcome → Type 0) → ((c : Circuit) → Fair [] (P c) (Q c)) →
+    Fair [] (ReadsCircuit name text P) (ReadsCircuit name text Q)
 circuit_fair name text P Q next =
-    reads_fair (λ (f : Fault CircuitCause). circuit.FirstFault text f.line f.cause) (circuit_fault name) (circuit.Reads text) P Q
-    (λ f. circuit_refusing name (at_line f.line (circuit_cause f.cause))) next
+    reads_fair [] (λ (f : Fault CircuitCause). circuit.FirstFault text f.line f.cause) (circuit_fault name) (circuit.Reads text) P Q
+    (λ f. circuit_refuses [] name (at_line f.line (circuit_cause f.cause))) next
 
 inputs_agree : (name : Text) (c : Circuit) (text : Text) (P Q : List (List Bool) → Outcome → Type 0) →
     ((v : List (List Bool)) → Agree (P v) (Q v)) → Agree (ReadsInputs name c text P) (ReadsInputs name c text Q)
@@ -191,11 +263,11 @@ inputs_agree name c text P Q next =
     (values_fault name) P Q next
 
 inputs_fair : (name : Text) (c : Circuit) (text : Text) (P Q : List (List Bool) → Outcome → Type 0) →
-    ((v : List (List Bool)) → Fair (P v) (Q v)) → Fair (ReadsInputs name c text P) (ReadsInputs name c text Q)
+    ((v : List (List Bool)) → Fair [] (P v) (Q v)) → Fair [] (ReadsInputs name c text P) (ReadsInputs name c text Q)
 inputs_fair name c text P Q next =
-    reads_fair (λ (f : Fault ValuesCause). values.FirstFault (inputs_of c.statements) None text f.line f.cause) (values_fault name)
+    reads_fair [] (λ (f : Fault ValuesCause). values.FirstFault (inputs_of c.statements) None text f.line f.cause) (values_fault name)
     (values.ReadsValues (inputs_of c.statements) None text) P Q
-    (λ f. values_refusing name (at_line f.line (values_cause f.cause))) next
+    (λ f. values_refuses [] name (at_line f.line (values_cause f.cause))) next
 
 both_agree : (held : Holding) (rose : Type 0) (first second : Text) (P Q : Text → Text → Outcome → Type 0) → ¬ rose →
     ((c v : Text) → Agree (P c v) (Q c v)) →
@@ -206,40 +278,43 @@ both_agree held rose first second P Q quiet next =
     (λ c. loads_agree held rose ⊥ second (P c) (Q c) quiet (λ x. x) (next c))
 
 both_fair : (told : Option Holding) (rose : Type 0) (first second : Text) (P Q : Text → Text → Outcome → Type 0) →
-    ((c v : Text) → Fair (P c v) (Q c v)) → Fair (LoadsBoth told rose first second P) (LoadsBoth told ⊥ first second Q)
+    ((c v : Text) → Fair [] (P c v) (Q c v)) → Fair [] (LoadsBoth told rose first second P) (LoadsBoth told ⊥ first second Q)
 both_fair told rose first second P Q next =
-    loads_fair told rose first (λ c. Loads told rose second (λ v. P c v)) (λ c. Loads told ⊥ second (λ v. Q c v))
-    (λ c. loads_fair told rose second (P c) (Q c) (next c))
+    loads_fair [] told rose first (λ c. Loads told rose second (λ v. P c v)) (λ c. Loads told ⊥ second (λ v. Q c v))
+    (λ c. loads_fair [] told rose second (P c) (Q c) (next c))
 
 plain_agree : (request : PlainRequest) (circuit values : Text) → Agree (PlainReads request circuit values) (PlainReads request circuit values)
 plain_agree request circuit values = circuit_agree request.circuit circuit _ _
     (λ c. unless_agree (HasTooMany c) (gates_refused request.circuit c) _ _
     (inputs_agree request.values c values _ _ (λ v. reports_agree c v (output_lines Decimal))))
 
-plain_fair : (request : PlainRequest) (circuit values : Text) → Fair (PlainReads request circuit values) (PlainReads request circuit values)
+plain_fair : (request : PlainRequest) (circuit values : Text) → Fair [] (PlainReads request circuit values) (PlainReads request circuit values)
 plain_fair request circuit values = circuit_fair request.circuit circuit _ _
-    (λ c. unless_fair (HasTooMany c) (gates_refused request.circuit c) _ _ (gates_refusing request.circuit c)
+    (λ c. unless_fair [] (HasTooMany c) (gates_refused request.circuit c) _ _ (gates_refuses request.circuit c)
     (inputs_fair request.values c values _ _ (λ v. reports_fair c v (output_lines Decimal))))
 
 says_agree : (o : Outcome) → Agree (λ end. end ≡ o) (λ end. end ≡ o)
 says_agree o x y m n = m ∙ sym n
 
-says_fair : (text : Text) → Fair (λ end. end ≡ reported text) (λ end. end ≡ reported text)
-says_fair text x m = (
-  (λ e. let is : Done ≡ Usage = sym (ap (λ (o : Outcome). o.status) m) ∙ e in cc),
-  (λ done. (ap (λ (o : Outcome). o.kind) m, m)),
-)
+says_fair : (text : Text) → Fair [] (λ end. end ≡ reported text) (λ end. end ≡ reported text)
+says_fair text x m = inr (record {
+  kind = ap (λ (o : Outcome). o.kind) m;
+  status = ap (λ (o : Outcome). o.status) m;
+  stored = ap (λ (o : Outcome). o.stored) m;
+  torn = ap (λ (o : Outcome). o.torn) m;
+  fair = m;
+})
 
 needs_agree : (request : NeedsRequest) (circuit : Text) → Agree (NeedsReads request circuit) (NeedsReads request circuit)
 needs_agree request circuit = circuit_agree request.circuit circuit _ _
     (λ c. unless_agree (all_built c ≡ false) (circuit_refused request.circuit (line (codes "not built"))) _ _
     (unless_agree (HasTooMany c) (gates_refused request.circuit c) _ _ (says_agree (reported (needs_report (lowered c))))))
 
-needs_fair : (request : NeedsRequest) (circuit : Text) → Fair (NeedsReads request circuit) (NeedsReads request circuit)
+needs_fair : (request : NeedsRequest) (circuit : Text) → Fair [] (NeedsReads request circuit) (NeedsReads request circuit)
 needs_fair request circuit = circuit_fair request.circuit circuit _ _
-    (λ c. unless_fair (all_built c ≡ false) (circuit_refused request.circuit (line (codes "not built"))) _ _
-    (circuit_refusing request.circuit (line (codes "not built")))
-    (unless_fair (HasTooMany c) (gates_refused request.circuit c) _ _ (gates_refusing request.circuit c)
+    (λ c. unless_fair [] (all_built c ≡ false) (circuit_refused request.circuit (line (codes "not built"))) _ _
+    (circuit_refuses [] request.circuit (line (codes "not built")))
+    (unless_fair [] (HasTooMany c) (gates_refused request.circuit c) _ _ (gates_refuses request.circuit c)
     (says_fair (needs_report (lowered c)))))
 
 local_agree : (request : LocalRequest) (circuit values : Text) → Agree (LocalReads request circuit values) (LocalReads request circuit values)
@@ -247,33 +322,52 @@ local_agree request circuit values = circuit_agree request.circuit circuit _ _
     (λ c. unless_agree (is_built c ≡ false) (circuit_refused request.circuit (line (codes "not built"))) _ _
     (inputs_agree request.values c values _ _ (λ v. reports_agree c v (λ outputs. parties_report Decimal outputs c.parties))))
 
-local_fair : (request : LocalRequest) (circuit values : Text) → Fair (LocalReads request circuit values) (LocalReads request circuit values)
+local_fair : (request : LocalRequest) (circuit values : Text) → Fair [] (LocalReads request circuit values) (LocalReads request circuit values)
 local_fair request circuit values = circuit_fair request.circuit circuit _ _
-    (λ c. unless_fair (is_built c ≡ false) (circuit_refused request.circuit (line (codes "not built"))) _ _
-    (circuit_refusing request.circuit (line (codes "not built")))
+    (λ c. unless_fair [] (is_built c ≡ false) (circuit_refused request.circuit (line (codes "not built"))) _ _
+    (circuit_refuses [] request.circuit (line (codes "not built")))
     (inputs_fair request.values c values _ _ (λ v. reports_fair c v (λ outputs. parties_report Decimal outputs c.parties))))
 
--- What a command has to show: words ask for one request at most, and outcomes agree and are fair.
-pub record IsSettled {R : Type 0} (asks : R → Type 0) (ends : Option Holding → Type 0 → R → Outcome → Type 0) : Type 1 where
+deal_agree : (told : Option Holding) (rose : Type 0) (r : DealRequest) → ¬ rose → Agree (DealEnds told rose r) (DealEnds told ⊥ r)
+deal_agree told rose r quiet =
+    unless_agree (most_file_bytes < part_length r) (file_refused (part_name r.prefix 0) (codes "too long")) _ _
+    (stores_agree (part_files r) (reported (dealt_line r.parties (deal_id r))) rose ⊥ quiet (λ x. x))
+
+deal_fair : (told : Option Holding) (rose : Type 0) (r : DealRequest) → Fair (deal_files r) (DealEnds told rose r) (DealEnds told ⊥ r)
+deal_fair told rose r x (inl m) =
+    refuses_so (deal_files r) (DealEnds told ⊥ r) x (file_refused (part_name r.prefix 0) (codes "too long")) m.1
+    (file_refuses (deal_files r) (part_name r.prefix 0) (codes "too long"))
+deal_fair told rose r x (inr m) =
+    let text = dealt_line r.parties (deal_id r) in
+    subst (λ files. Refuses files x ⊎ Gives files (DealEnds told ⊥ r) x) (sym (stored_files r m.0))
+    (carried (part_files r) (StoresAll ⊥ (part_files r) (reported text)) (DealEnds told ⊥ r) x (λ q. inr (m.0, q))
+    (stores_fair (part_files r) text rose x m.1))
+
+-- What a command has to show: words ask for one request at most, outcomes agree, and each is a refusal or a report.
+pub record IsSettled {R : Type 0} (asks : R → Type 0) (ends : Option Holding → Type 0 → R → Outcome → Type 0)
+    (files : R → List (Text × Text)) : Type 1 where
   pub one : (r s : R) → asks r → asks s → r ≡ s
   pub agree : (held : Holding) (rose : Type 0) (r : R) → ¬ rose → Agree (ends (Some held) rose r) (ends (Some held) ⊥ r)
-  pub fair : (told : Option Holding) (rose : Type 0) (r : R) → Fair (ends told rose r) (ends told ⊥ r)
+  pub fair : (told : Option Holding) (rose : Type 0) (r : R) → Fair (files r) (ends told rose r) (ends told ⊥ r)
 
-pub plain_settled : (words : List (List ℕ)) → IsSettled (AsksPlain words) PlainEnds
+pub plain_settled : (words : List (List ℕ)) → IsSettled (AsksPlain words) PlainEnds no_files
 plain_settled words = record {
   one = plain_once words;
   agree = λ held rose r quiet. both_agree held rose r.circuit r.values (PlainReads r) (PlainReads r) quiet (plain_agree r);
   fair = λ told rose r. both_fair told rose r.circuit r.values (PlainReads r) (PlainReads r) (plain_fair r);
 }
 
-pub needs_settled : (words : List (List ℕ)) → IsSettled (AsksNeeds words) NeedsEnds
+pub needs_settled : (words : List (List ℕ)) → IsSettled (AsksNeeds words) NeedsEnds no_files
 needs_settled words = record {
   one = needs_once words;
   agree = λ held rose r quiet. loads_agree held rose ⊥ r.circuit (NeedsReads r) (NeedsReads r) quiet (λ x. x) (needs_agree r);
-  fair = λ told rose r. loads_fair told rose r.circuit (NeedsReads r) (NeedsReads r) (needs_fair r);
+  fair = λ told rose r. loads_fair [] told rose r.circuit (NeedsReads r) (NeedsReads r) (needs_fair r);
 }
 
-pub local_settled : (words : List (List ℕ)) → IsSettled (AsksLocal words) LocalEnds
+pub deal_settled : (words : List (List ℕ)) → IsSettled (AsksDeal words) DealEnds deal_files
+deal_settled words = record { one = deal_once words; agree = λ held rose r quiet. deal_agree (Some held) rose r quiet; fair = deal_fair }
+
+pub local_settled : (words : List (List ℕ)) → IsSettled (AsksLocal words) LocalEnds no_files
 local_settled words = record {
   one = local_once words;
   agree = λ held rose r quiet. both_agree held rose r.circuit r.values (LocalReads r) (LocalReads r) quiet (local_agree r);
@@ -282,15 +376,16 @@ local_settled words = record {
 
 request_agree : (held : Holding) (rose : Type 0) (r : Request) → ¬ rose → Agree (RequestEnds (Some held) rose r) (RequestEnds (Some held) ⊥ r)
 request_agree held rose (plain r) quiet = (plain_settled []).agree held rose r quiet
+request_agree held rose (deal r) quiet = deal_agree (Some held) rose r quiet
 request_agree held rose (local r) quiet = (local_settled []).agree held rose r quiet
 request_agree held rose (needs r) quiet = (needs_settled []).agree held rose r quiet
-request_agree held rose (deal r) quiet = λ x y m n. absurd m
 
-request_fair : (told : Option Holding) (rose : Type 0) (r : Request) → Fair (RequestEnds told rose r) (RequestEnds told ⊥ r)
+request_fair : (told : Option Holding) (rose : Type 0) (r : Request) →
+    Fair (request_files r) (RequestEnds told rose r) (RequestEnds told ⊥ r)
 request_fair told rose (plain r) = (plain_settled []).fair told rose r
+request_fair told rose (deal r) = deal_fair told rose r
 request_fair told rose (local r) = (local_settled []).fair told rose r
 request_fair told rose (needs r) = (needs_settled []).fair told rose r
-request_fair told rose (deal r) = λ x m. absurd m
 
-pub request_settled : (words : List (List ℕ)) → IsSettled (AsksFor words) RequestEnds
+pub request_settled : (words : List (List ℕ)) → IsSettled (AsksFor words) RequestEnds request_files
 request_settled words = record { one = asked_once words; agree = request_agree; fair = request_fair }

@@ -1,16 +1,16 @@
 -- What words ask for, whichever list of offers says what is run.
-use Rattle.std.proofs.Common.{◌≡◌, Bool, true, false, ◌&&◌, ◌||◌, List, [], ◌∷◌, map, refl, sym, ◌∙◌, ap, subst}
+use Rattle.std.proofs.Common.{◌≡◌, Bool, ◌&&◌, ◌||◌, List, [], ◌∷◌, map, refl, sym, ◌∙◌, ap, subst}
 use Rattle.std.specs.List.{list_any}
 use Rattle.cli_words.specs.Table.{row, is_same, option_kind}
 use Rattle.cli_words.specs.Grammar.{is_command, is_offered, is_run_with, takes_option, given, IsGiven, Asks}
-use Rattle.cli_words.specs.Request.{Request, PlainRequest, NeedsRequest, LocalRequest, plain, needs, deal, local, command_of, option_of}
+use Rattle.cli_words.specs.Request.{Request, PlainRequest, NeedsRequest, DealRequest, LocalRequest, plain, needs, deal, local, command_of, option_of}
 use Rattle.cli_words.specs.declared.table.Command.{Command}
 use Rattle.cli_words.specs.declared.table.Command.TheVariants.{Plain, Needs, Deal, Local}
 use Rattle.cli_words.specs.declared.table.OptionName.{OptionName}
 use Rattle.cli_words.specs.declared.table.Offer.{Offer}
 use Rattle.cli_words.proofs.Reading.{one_request}
 use Rattle.text_lines.specs.Text.{Text}
-use Rattle.motion_cli.specs.Words.{command_offered, AreRun, AsksFor, AsksPlain, AsksNeeds, AsksLocal, NamesCommand, IsRun}
+use Rattle.motion_cli.specs.Words.{command_offered, AreRun, AsksFor, AsksPlain, AsksNeeds, AsksDeal, AsksLocal, NamesCommand, StoresNothing}
 
 abbrev names : Command → Command × List OptionName → Bool
 names command offer = is_command offer.0 command
@@ -61,6 +61,9 @@ plain_once words r s a b = (let same : plain r ≡ plain s = asked_once ((row Pl
 pub needs_once : (words : List Text) (r s : NeedsRequest) → AsksNeeds words r → AsksNeeds words s → r ≡ s
 needs_once words r s a b = (let same : needs r ≡ needs s = asked_once ((row Needs).text ∷ words) (needs r) (needs s) a b in cc)
 
+pub deal_once : (words : List Text) (r s : DealRequest) → AsksDeal words r → AsksDeal words s → r ≡ s
+deal_once words r s a b = (let same : deal r ≡ deal s = asked_once ((row Deal).text ∷ words) (deal r) (deal s) a b in cc)
+
 pub local_once : (words : List Text) (r s : LocalRequest) → AsksLocal words r → AsksLocal words s → r ≡ s
 local_once words r s a b = (let same : local r ≡ local s = asked_once ((row Local).text ∷ words) (local r) (local s) a b in cc)
 
@@ -69,14 +72,14 @@ pub none_asked : (offers : List Offer) (words : List Text) → AreRun offers →
     (r : Request) → ¬ (AsksFor words r)
 none_asked offers words run none r asks = none r (asks_over asks.0 offers words r asks.1 run asks.2)
 
--- what is asked for is run
-pub asked_is_run : (offers : List Offer) (words : List Text) (r : Request) → AreRun offers → Asks offers words r → IsRun r
-asked_is_run offers words (plain r) run asks = tt
-asked_is_run offers words (local r) run asks = tt
-asked_is_run offers words (needs r) run asks = tt
-asked_is_run offers words (deal r) run asks =
-    (let no : false ≡ true = sym (ap (list_any (names Deal)) run) ∙ (sym (offered_by offers Deal) ∙ asks.offered) in cc)
-
 -- words that ask for something begin with the name of a command
 pub asked_is_named : (words : List Text) (r : Request) → AsksFor words r → NamesCommand words
 asked_is_named words r asks = (asks.0, asks.1, (command_of r, asks.2.rest, asks.2.named, asks.2.offered))
+
+-- words that do not ask for `deal` ask for nothing that is stored
+pub not_dealt : (words : List Text) (r : Request) → ((request : DealRequest) → ¬ (AsksFor words (deal request))) → AsksFor words r →
+    StoresNothing r
+not_dealt words (deal r) none asks = none r asks
+not_dealt words (plain r) none asks = tt
+not_dealt words (local r) none asks = tt
+not_dealt words (needs r) none asks = tt

@@ -1,9 +1,9 @@
 -- What each command comes to: one composition of steps for each.
-use Rattle.std.specs.Prelude.{◌≡◌, ◌<◌, ◌++◌, Bool, false, List, codes, Option, None}
-use Rattle.std.specs.Fmt.{decimal}
+use Rattle.std.specs.Prelude.{◌≡◌, ◌<◌, ◌++◌, Bool, false, List, [], codes, Option, None}
 use Rattle.mot_base.specs.Files.{Holding}
-use Rattle.mot_base.specs.Limits.{most_gates}
-use Rattle.cli_words.specs.Request.{Request, PlainRequest, NeedsRequest, LocalRequest, plain, needs, deal, local}
+use Rattle.mot_base.specs.Limits.{most_file_bytes, most_gates}
+use Rattle.std.specs.Fmt.{decimal}
+use Rattle.cli_words.specs.Request.{Request, PlainRequest, NeedsRequest, DealRequest, LocalRequest, plain, needs, deal, local}
 use Rattle.circuit_values.specs.declared.cause.ValuesCause.{ValuesCause}
 use Rattle.circuit_values.specs.Table.{Told}
 use Rattle.circuit_values.specs.Values as values
@@ -15,11 +15,12 @@ use Rattle.mixed_circuit.specs.Eval.{IsPlain}
 use Rattle.text_lines.specs.Text.{Text}
 use Rattle.gate_plan.specs.Lowering.{all_gates, all_built, lowered}
 use Rattle.motion_cli.specs.declared.report.Notation.TheVariants.{Decimal}
-use Rattle.motion_cli.specs.Outcome.{Outcome, reported, line, at_line, circuit_refused, values_refused}
+use Rattle.motion_cli.specs.Outcome.{Outcome, reported, line, at_line, file_refused, circuit_refused, values_refused}
+use Rattle.motion_cli.specs.Parts.{part_name, part_files, part_length, deal_files, deal_id, dealt_line}
 use Rattle.motion_cli.specs.Refusal.{circuit_cause, values_cause}
 use Rattle.motion_cli.specs.Report.{output_lines, parties_report, needs_report}
 use Rattle.motion_cli.specs.Run.{is_built}
-use Rattle.motion_cli.specs.Steps.{Fault, Loads, ReadsAs, Unless}
+use Rattle.motion_cli.specs.Steps.{Fault, Loads, ReadsAs, Unless, StoresAll}
 
 -- the text of a file is read as a circuit
 abbrev pub ReadsCircuit : Text → Text → (Circuit → Outcome → Type 0) → Outcome → Type 0
@@ -93,9 +94,23 @@ LocalReads request circuit values =
 abbrev pub LocalEnds : Option Holding → Type 0 → LocalRequest → Outcome → Type 0
 LocalEnds told rose request = LoadsBoth told rose request.circuit request.values (LocalReads request)
 
+-- `deal`: parts that are too long are told by the name of the first, and else the part of each party is stored
+abbrev pub DealEnds : Option Holding → Type 0 → DealRequest → Outcome → Type 0
+DealEnds told rose request =
+    Unless (most_file_bytes < part_length request)
+    (file_refused (part_name request.prefix 0) (codes "too long")) (
+    StoresAll rose (part_files request) (reported (dealt_line request.parties (deal_id request))))
+
 -- what a request comes to, of a command that is run
 abbrev pub RequestEnds : Option Holding → Type 0 → Request → Outcome → Type 0
 RequestEnds told rose (plain request) = PlainEnds told rose request
-RequestEnds told rose (needs request) = NeedsEnds told rose request
 RequestEnds told rose (local request) = LocalEnds told rose request
-RequestEnds told rose (deal request) = λ end. ⊥
+RequestEnds told rose (deal request) = DealEnds told rose request
+RequestEnds told rose (needs request) = NeedsEnds told rose request
+
+-- the files that a request stores, in their order, each with its content
+abbrev pub request_files : Request → List (Text × Text)
+request_files (deal request) = deal_files request
+request_files (plain request) = []
+request_files (local request) = []
+request_files (needs request) = []

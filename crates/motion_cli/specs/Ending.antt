@@ -1,10 +1,8 @@
 -- How a call ends: what it comes to, what is written of it, and what it leaves.
-use Rattle.std.specs.Prelude.{ℕ, ◌≡◌, ◌≢◌, ◌⊎◌, List, [], ◌∷◌, ◌++◌, Option, Some, None, Result, Ok, Err, if◌then◌else◌, bytes_eq}
+use Rattle.std.specs.Prelude.{ℕ, ◌≡◌, ◌≢◌, ◌⊎◌, List, [], ◌∷◌, ◌++◌, take, slice_get, option_map, Option, Some, None, if◌then◌else◌, bytes_eq}
 use Rattle.mot_base.specs.Faults.{Rose}
 use Rattle.mot_base.specs.Files.{Holding}
 use Rattle.mot_base.specs.Sink.{with_more}
-use Rattle.cli_words.specs.declared.read.WordsError.{WordsError}
-use Rattle.cli_words.specs.declared.read.WordsError.TheVariants as words
 use Rattle.text_lines.specs.Text.{Text}
 use Rattle.motion_cli.specs.declared.status.Status.{Status}
 use Rattle.motion_cli.specs.declared.status.Status.TheVariants.{Usage, Write}
@@ -54,12 +52,19 @@ after_stores held [] name = held name
 after_stores held (s ∷ more) name =
     after_stores (λ n. if bytes_eq n s.0 then Some s.1 else held n) more name
 
--- files hold what the stores of an outcome left, but for the name of which nothing is known any more
-abbrev pub Leaves : Option Holding → Option Holding → Outcome → Type 0
-Leaves None after end = Unit {0}
-Leaves (Some held) (Some now) end =
-    (name : Text) → Some name ≢ end.torn → now name ≡ after_stores held end.stored name
-Leaves (Some held) None end = ⊥
+-- files hold what these stores left, but for the name of which nothing is known any more
+abbrev pub AreLeft : Option Holding → Option Holding → List (Text × Text) → Option Text → Type 0
+AreLeft None after stored torn = Unit {0}
+AreLeft (Some held) (Some now) stored torn =
+    (name : Text) → Some name ≢ torn → now name ≡ after_stores held stored name
+AreLeft (Some held) None stored torn = ⊥
+
+-- of these files none is stored; or some first ones are, and of the name of the next, if there is one, nothing is
+-- known any more
+abbrev pub AreFirst : List (Text × Text) → List (Text × Text) → Option Text → Type 0
+AreFirst files stored torn =
+    ((stored ≡ []) × (torn ≡ None))
+    ⊎ ((at : ℕ) × (stored ≡ take at files) × (torn ≡ option_map (λ file. file.0) (slice_get files at)))
 
 -- a call ended with an outcome to which these causes lead; that was written of it, and it left the files so
 pub record Ended (ends : Outcome → Type 0) (before after : Outside) (status : ℕ) : Type 0 where
@@ -67,31 +72,35 @@ pub record Ended (ends : Outcome → Type 0) (before after : Outside) (status : 
   pub cause : ends outcome
   pub written :
       Writes before.appended after.appended (Rose before.out_faults after.out_faults) outcome status
-  pub left : Leaves before.held after.held outcome
+  pub left : AreLeft before.held after.held outcome.stored outcome.torn
 
--- what was read of words comes to this: what they ask for or want of memory there, the usage where they ask
--- for nothing, or want of memory while they were read
-abbrev pub ReadEnds : {W R : Type 0} →
-    (W → R) → (R → Outcome → Type 0) → Result W WordsError → Outcome → Type 0
-ReadEnds request_of ends (Ok words) end = ends (request_of words) end ⊎ (end ≡ memory)
-ReadEnds request_of ends (Err words.Usage) end = end ≡ usage
-ReadEnds request_of ends (Err words.NoMemory) end = end ≡ memory
+-- memory ran out, where some first ones of these files may have been stored
+abbrev pub Wants : List (Text × Text) → Outcome → Type 0
+Wants files end =
+    (stored : List (Text × Text)) × (torn : Option Text) × AreFirst files stored torn
+    × (end ≡ record memory { stored = stored; torn = torn })
 
--- memory runs out; or words that ask for nothing end with the usage, and words that ask for something end as
--- that ends
-abbrev pub Asked : {R : Type 0} → (R → Type 0) → (R → Outcome → Type 0) → Outcome → Type 0
-Asked {R} asks ends end =
+-- memory runs out; or words that ask for nothing end with the usage, and words that ask for something end as that
+-- ends, or with want of memory while its files are stored
+abbrev pub Asked : {R : Type 0} →
+    (R → Type 0) → (R → Outcome → Type 0) → (R → List (Text × Text)) → Outcome → Type 0
+Asked {R} asks ends files end =
     (end ≡ memory)
     ⊎ ((((request : R) → ¬ (asks request)) × (end ≡ usage))
-    ⊎ ((request : R) × asks request × ends request end))
+    ⊎ ((request : R) × asks request × (ends request end ⊎ Wants (files request) end)))
 
 -- What a request leads to: from what files are told to hold, and from whether their count of faults rose, to
 -- an outcome.
 abbrev pub Leading : Type 0 → Type 1
 Leading R = Option Holding → Type 0 → R → Outcome → Type 0
 
--- a call ended as its words lead to, by what files were told to hold, and by whether their count of faults
--- rose
-abbrev pub EndsAs : {R : Type 0} → (R → Type 0) → Leading R → Outside → Outside → ℕ → Type 0
-EndsAs asks leads before after status =
-    Ended (Asked asks (leads before.held (Rose before.file_faults after.file_faults))) before after status
+-- a call ended as its words lead to, by what files were told to hold, by whether their count of faults rose, and by
+-- the files that a request stores
+abbrev pub EndsAs : {R : Type 0} →
+    (R → Type 0) → Leading R → (R → List (Text × Text)) → Outside → Outside → ℕ → Type 0
+EndsAs asks leads files before after status =
+    Ended (Asked asks (leads before.held (Rose before.file_faults after.file_faults)) files) before after status
+
+-- a command that stores nothing
+abbrev pub no_files : {R : Type 0} → R → List (Text × Text)
+no_files request = []

@@ -8,3 +8,5 @@ pub mod Run
 pub mod Steps
 pub mod Words
 pub mod Settled
+pub mod Coming
+pub mod Parts

@@ -14,8 +14,9 @@ use Rattle.motion_cli.specs.declared.status.Status.TheVariants as status
 use Rattle.motion_cli.specs.declared.refusal.FileCause.{FileCause}
 use Rattle.motion_cli.specs.declared.refusal.FileCause.TheVariants.{Missing, TooLong, Fault}
 use Rattle.motion_cli.specs.declared.refusal.Refusal.{Refusal}
-use Rattle.motion_cli.specs.declared.refusal.Refusal.TheVariants.{Usage, Circuit, NotBuilt, Gates, Values, File, Memory}
+use Rattle.motion_cli.specs.declared.refusal.Refusal.TheVariants.{Usage, Circuit, NotBuilt, Gates, Values, File, Part, Memory}
 use Rattle.motion_cli.specs.Outcome.{Outcome, refused, reported, line, about, at_line}
+use Rattle.motion_cli.specs.Parts.{part_name}
 
 abbrev pub cause_of : FileCause → Text
 cause_of Missing = codes "missing"
@@ -50,6 +51,7 @@ status_of (NotBuilt name) = status.Circuit
 status_of (Gates name gates) = status.Circuit
 status_of (Values name number cause) = status.Values
 status_of (File name cause) = status.File
+status_of (Part prefix party cause) = status.File
 status_of Memory = status.Memory
 
 abbrev pub line_of : Refusal → Text
@@ -60,6 +62,7 @@ line_of (NotBuilt name) = about (codes "circuit") name.now (line (codes "not bui
 line_of (Gates name gates) = about (codes "circuit") name.now (codes "gates " ++ line (decimal gates))
 line_of (Values name number cause) = about (codes "values") name.now (at_line number (values_cause cause))
 line_of (File name cause) = about (codes "file") name.now (line (cause_of cause))
+line_of (Part prefix party cause) = about (codes "file") (part_name prefix.now party) (line (cause_of cause))
 line_of Memory = line (codes "memory")
 
 -- what a command comes to that ends with a refusal

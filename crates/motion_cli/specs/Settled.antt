@@ -1,9 +1,10 @@
 -- How words and files settle the way in which a call ends.
-use Rattle.std.specs.Prelude.{ℕ, ◌≡◌, ◌⊎◌, Some}
+use Rattle.std.specs.Prelude.{ℕ, ◌≡◌, ◌⊎◌, List, [], Option, None, Some}
 use Rattle.mot_base.specs.Faults.{Rose}
 use Rattle.mot_base.specs.Files.{Holding}
 use Rattle.mot_base.specs.Sink.{with_more}
-use Rattle.motion_cli.specs.Ending.{Outside, Leading}
+use Rattle.text_lines.specs.Text.{Text}
+use Rattle.motion_cli.specs.Ending.{Outside, Leading, AreLeft, AreFirst}
 use Rattle.motion_cli.specs.Outcome.{Outcome, code_of}
 use Rattle.motion_cli.specs.Outcome.Kind.{report}
 
@@ -29,3 +30,17 @@ IsComplete {R} asks ends before after status =
     (request : R) → asks request → (end : Outcome) → ends (Some held) ⊥ request end →
     ((status ≡ code_of end.status) × (after.appended ≡ with_more before.appended end.text))
     ⊎ (status ≡ 11)
+
+-- What the files hold after a call, by its status: some first ones of the files that its words ask to be stored are
+-- stored, of the name of the next nothing is known, and all other names hold what they held. At status 0 and 9 all
+-- of them are stored, and at status 1 none is.
+pub record IsStored {R : Type 0} (asks : R → Type 0) (files : R → List (Text × Text)) (before after : Option Holding)
+    (status : ℕ) : Type 0 where
+  pub stored : List (Text × Text)
+  pub torn : Option Text
+  pub left : AreLeft before after stored torn
+  pub some : ((stored ≡ []) × (torn ≡ None))
+      ⊎ ((request : R) × asks request × AreFirst (files request) stored torn)
+  pub all : (status ≡ 0) ⊎ (status ≡ 9) →
+      (request : R) × asks request × (stored ≡ files request) × (torn ≡ None)
+  pub none : status ≡ 1 → (stored ≡ []) × (torn ≡ None)

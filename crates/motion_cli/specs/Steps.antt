@@ -1,6 +1,6 @@
 -- The steps of which commands are composed. Each says how it ends a command, or what comes after it. `rose`
 -- says that the files' count of faults rose.
-use Rattle.std.specs.Prelude.{ℕ, ◌≡◌, ◌≤◌, ◌⊎◌, length, codes, Option, Some, None, IfSome, IsSomeAnd}
+use Rattle.std.specs.Prelude.{ℕ, ◌≡◌, ◌≤◌, ◌⊎◌, length, codes, List, take, slice_get, Option, Some, None, IfSome, IsSomeAnd}
 use Rattle.mot_base.specs.Limits.{most_file_bytes}
 use Rattle.mot_base.specs.Files.{Holding, IsTooLong}
 use Rattle.text_lines.specs.Text.{Text}
@@ -40,6 +40,14 @@ ReadsAs {F} {C} faulty refusal_of reads next end =
 -- a cause is judged: it is there and answered, or it is not and the command goes on
 abbrev pub Unless : Type 0 → Outcome → (Outcome → Type 0) → Outcome → Type 0
 Unless cause answer next end = (cause × (end ≡ answer)) ⊎ (¬ cause × next end)
+
+-- files are stored, one after another: all of them, and the command ends with this; or the files failed at one
+-- of them, of whose name nothing is known any more, and those before it are stored
+abbrev pub StoresAll : Type 0 → List (Text × Text) → Outcome → Outcome → Type 0
+StoresAll rose files done end =
+    (end ≡ record done { stored = files })
+    ⊎ (rose × (at : ℕ) × (file : Text × Text) × (slice_get files at ≡ Some file)
+    × (end ≡ record (file_refused file.0 (codes "fault")) { stored = take at files; torn = Some file.0 }))
 
 -- a line of a text, and the cause that it shows
 pub record Fault (C : Type 0) : Type 0 where

@@ -2,16 +2,16 @@
 use Rattle.std.specs.Prelude.{◌≡◌, List, [], ◌∷◌, map}
 use Rattle.cli_words.specs.Table.{row}
 use Rattle.cli_words.specs.Grammar.{Asks, IsNamed}
-use Rattle.cli_words.specs.Request.{Request, PlainRequest, NeedsRequest, LocalRequest, plain, needs, deal, local}
+use Rattle.cli_words.specs.Request.{Request, PlainRequest, NeedsRequest, DealRequest, LocalRequest, plain, needs, deal, local}
 use Rattle.cli_words.specs.declared.table.Command.{Command}
-use Rattle.cli_words.specs.declared.table.Command.TheVariants.{Plain, Needs, Local}
+use Rattle.cli_words.specs.declared.table.Command.TheVariants.{Plain, Needs, Deal, Local}
 use Rattle.cli_words.specs.declared.table.OptionName.{OptionName}
 use Rattle.cli_words.specs.declared.table.Offer.{Offer}
 use Rattle.text_lines.specs.Text.{Text}
 
 -- the commands that are run, each with those of its options that are
 abbrev pub run_commands : List (Command × List OptionName)
-run_commands = (Plain, []) ∷ (Needs, []) ∷ (Local, []) ∷ []
+run_commands = (Plain, []) ∷ (Needs, []) ∷ (Deal, []) ∷ (Local, []) ∷ []
 
 abbrev pub command_offered : Offer → Command × List OptionName
 command_offered offer = (offer.command, offer.options.now)
@@ -32,6 +32,10 @@ AsksPlain words request = AsksFor ((row Plain).text ∷ words) (plain request)
 abbrev pub AsksNeeds : List Text → NeedsRequest → Type 0
 AsksNeeds words request = AsksFor ((row Needs).text ∷ words) (needs request)
 
+-- the words after `deal` ask for this
+abbrev pub AsksDeal : List Text → DealRequest → Type 0
+AsksDeal words request = AsksFor ((row Deal).text ∷ words) (deal request)
+
 -- the words after `local` ask for this
 abbrev pub AsksLocal : List Text → LocalRequest → Type 0
 AsksLocal words request = AsksFor ((row Local).text ∷ words) (local request)
@@ -40,9 +44,9 @@ AsksLocal words request = AsksFor ((row Local).text ∷ words) (local request)
 abbrev pub NamesCommand : List Text → Type 0
 NamesCommand words = (offers : List Offer) × AreRun offers × IsNamed offers words
 
--- the command of the request is run
-abbrev pub IsRun : Request → Type 0
-IsRun (plain request) = Unit {0}
-IsRun (needs request) = Unit {0}
-IsRun (local request) = Unit {0}
-IsRun (deal request) = ⊥
+-- the command of the request stores no file
+abbrev pub StoresNothing : Request → Type 0
+StoresNothing (deal request) = ⊥
+StoresNothing (plain request) = Unit {0}
+StoresNothing (local request) = Unit {0}
+StoresNothing (needs request) = Unit {0}

@@ -31,6 +31,9 @@ pub(crate) fn dealt_triple(dealer: &Seed, number: u32) -> DealtTriple
     DealtTriple { first, second }
 }
 
+/// The label under which the seed of the dealer's tape is derived. A party's is its number.
+pub(crate) const DEALER: u8 = 255;
+
 /// The words of a deal before its first triple: two are its id, and four each party's offset.
 const DEAL_WORDS: u64 = 2 + 2 * 4;
 

@@ -16,6 +16,10 @@ pub(crate) fn offers() -> &'static [Offer]
             options: &[],
         },
         Offer {
+            command: Command::Deal,
+            options: &[],
+        },
+        Offer {
             command: Command::Local,
             options: &[],
         },

@@ -3,27 +3,30 @@
 ghost use Rattle.std.specs.Prelude.{◌≡◌, ◌≤◌, IfOk};
 ghost use Rattle.mot_base.specs.Faults.{Rose};
 ghost use Rattle.cli_words.specs.Grammar.{texts};
-ghost use Rattle.cli_words.specs.Request.{request_of, plain_request, needs_request, local_request};
-ghost use Rattle.motion_cli.specs.Commands.{RequestEnds, PlainEnds, NeedsEnds, LocalEnds};
-ghost use Rattle.motion_cli.specs.Ending.{ReadEnds, EndsAs, outside};
+ghost use Rattle.cli_words.specs.Request.{DealRequest, deal, request_of, plain_request, needs_request, deal_request, local_request};
+ghost use Rattle.motion_cli.specs.Coming.{Came, ReadCame};
+ghost use Rattle.motion_cli.specs.Commands.{RequestEnds, PlainEnds, NeedsEnds, DealEnds, LocalEnds, request_files};
+ghost use Rattle.motion_cli.specs.Ending.{EndsAs, outside, no_files};
+ghost use Rattle.motion_cli.specs.Parts.{deal_files};
 ghost use Rattle.motion_cli.specs.Refusal.{came_to};
-ghost use Rattle.motion_cli.specs.Settled.{IsUsage, IsDone, IsComplete};
-ghost use Rattle.motion_cli.specs.Words.{AsksFor, AsksPlain, AsksNeeds, AsksLocal, NamesCommand, IsRun};
+ghost use Rattle.motion_cli.specs.Settled.{IsUsage, IsDone, IsComplete, IsStored};
+ghost use Rattle.motion_cli.specs.Words.{AsksFor, AsksPlain, AsksNeeds, AsksDeal, AsksLocal, NamesCommand, StoresNothing};
 
 use crate::commands::{local_report, needs_report, plain_report};
 use crate::end::end;
 use crate::offers::offers;
+use crate::parts::deal_report;
 use crate::refusal::Refusal;
 use cli_words::{
-    CommandWords, LocalWords, NeedsWords, PlainWords, WordsError, read_local, read_needs,
-    read_plain, read_words,
+    CommandWords, DealWords, LocalWords, NeedsWords, PlainWords, WordsError, read_deal, read_local,
+    read_needs, read_plain, read_words,
 };
 use mot_base::{Files, Sink};
 use std::alloc::Global;
 
 /// Does all that the program does with the words after its name, and answers the status that it ends with.
 pub fn motion<F: Files, S: Sink>(alloc: Global, words: &[String], files: &mut F, out: &mut S) -> u8
-    ensures ended { EndsAs (AsksFor (texts words.entry.now)) RequestEnds
+    ensures ended { EndsAs (AsksFor (texts words.entry.now)) RequestEnds request_files
         (outside (F.holds files.old) (F.faults files.old) (S.appended out.old) (S.faults out.old))
         (outside (F.holds files.new) (F.faults files.new) (S.appended out.new) (S.faults out.new)) result }
     ensures usage { IsUsage (AsksFor (texts words.entry.now)) result }
@@ -34,7 +37,10 @@ pub fn motion<F: Files, S: Sink>(alloc: Global, words: &[String], files: &mut F,
     ensures complete { IsComplete (AsksFor (texts words.entry.now)) RequestEnds
         (outside (F.holds files.old) (F.faults files.old) (S.appended out.old) (S.faults out.old))
         (outside (F.holds files.new) (F.faults files.new) (S.appended out.new) (S.faults out.new)) result }
-    ensures same { F.holds files.new ≡ F.holds files.old }
+    ensures stored { IsStored (AsksFor (texts words.entry.now)) request_files
+        (F.holds files.old) (F.holds files.new) result }
+    ensures same { ((request : DealRequest) → ¬ (AsksFor (texts words.entry.now) (deal request))) →
+        F.holds files.new ≡ F.holds files.old }
     ensures files_never_fall { F.faults files.old ≤ F.faults files.new }
     ensures out_never_falls { S.faults out.old ≤ S.faults out.new }
 {
@@ -49,19 +55,37 @@ fn run<'a, F: Files>(
     read: &'a Result<CommandWords, WordsError>,
     files: &mut F,
 ) -> Result<String, Refusal<'a>>
-    requires { IfOk read.now (λ words. IsRun (request_of words)) }
-    ensures came { ReadEnds request_of
-        (RequestEnds (F.holds files.old) (Rose (F.faults files.old) (F.faults files.new)))
-        read.entry.now (came_to result) }
-    ensures same { F.holds files.new ≡ F.holds files.old }
+    ensures came { ReadCame request_of
+        (RequestEnds (F.holds files.old) (Rose (F.faults files.old) (F.faults files.new))) request_files
+        (F.holds files.old) (F.holds files.new) read.entry.now (came_to result) }
+    ensures same { IfOk read.entry.now (λ words. StoresNothing (request_of words)) →
+        F.holds files.new ≡ F.holds files.old }
     ensures never_falls { F.faults files.old ≤ F.faults files.new }
 {
     match read {
-        Ok(CommandWords::Plain(words)) => plain_report(alloc, words, files),
-        Ok(CommandWords::Needs(words)) => needs_report(alloc, words, files),
-        Ok(CommandWords::Local(words)) => local_report(alloc, words, files),
-        Ok(CommandWords::Deal(_)) => unreachable!(),
+        Ok(words) => run_words(alloc, words, files),
         Err(error) => Err(Refusal::from(*error)),
+    }
+}
+
+/// What comes of what the words ask for.
+fn run_words<'a, F: Files>(
+    alloc: Global,
+    words: &'a CommandWords,
+    files: &mut F,
+) -> Result<String, Refusal<'a>>
+    ensures came { Came
+        (RequestEnds (F.holds files.old) (Rose (F.faults files.old) (F.faults files.new))
+        (request_of words.entry.now))
+        (request_files (request_of words.entry.now)) (F.holds files.old) (F.holds files.new) (came_to result) }
+    ensures same { StoresNothing (request_of words.entry.now) → F.holds files.new ≡ F.holds files.old }
+    ensures never_falls { F.faults files.old ≤ F.faults files.new }
+{
+    match words {
+        CommandWords::Plain(words) => plain_report(alloc, words, files),
+        CommandWords::Needs(words) => needs_report(alloc, words, files),
+        CommandWords::Deal(words) => deal_report(alloc, words, files),
+        CommandWords::Local(words) => local_report(alloc, words, files),
     }
 }
 
@@ -72,7 +96,7 @@ pub fn plain_command<F: Files, S: Sink>(
     files: &mut F,
     out: &mut S,
 ) -> u8
-    ensures ended { EndsAs (AsksPlain (texts words.entry.now)) PlainEnds
+    ensures ended { EndsAs (AsksPlain (texts words.entry.now)) PlainEnds no_files
         (outside (F.holds files.old) (F.faults files.old) (S.appended out.old) (S.faults out.old))
         (outside (F.holds files.new) (F.faults files.new) (S.appended out.new) (S.faults out.new)) result }
     ensures usage { IsUsage (AsksPlain (texts words.entry.now)) result }
@@ -97,9 +121,9 @@ fn run_plain<'a, F: Files>(
     read: &'a Result<PlainWords, WordsError>,
     files: &mut F,
 ) -> Result<String, Refusal<'a>>
-    ensures came { ReadEnds plain_request
-        (PlainEnds (F.holds files.old) (Rose (F.faults files.old) (F.faults files.new)))
-        read.entry.now (came_to result) }
+    ensures came { ReadCame plain_request
+        (PlainEnds (F.holds files.old) (Rose (F.faults files.old) (F.faults files.new))) no_files
+        (F.holds files.old) (F.holds files.new) read.entry.now (came_to result) }
     ensures same { F.holds files.new ≡ F.holds files.old }
     ensures never_falls { F.faults files.old ≤ F.faults files.new }
 {
@@ -116,7 +140,7 @@ pub fn needs_command<F: Files, S: Sink>(
     files: &mut F,
     out: &mut S,
 ) -> u8
-    ensures ended { EndsAs (AsksNeeds (texts words.entry.now)) NeedsEnds
+    ensures ended { EndsAs (AsksNeeds (texts words.entry.now)) NeedsEnds no_files
         (outside (F.holds files.old) (F.faults files.old) (S.appended out.old) (S.faults out.old))
         (outside (F.holds files.new) (F.faults files.new) (S.appended out.new) (S.faults out.new)) result }
     ensures usage { IsUsage (AsksNeeds (texts words.entry.now)) result }
@@ -141,14 +165,58 @@ fn run_needs<'a, F: Files>(
     read: &'a Result<NeedsWords, WordsError>,
     files: &mut F,
 ) -> Result<String, Refusal<'a>>
-    ensures came { ReadEnds needs_request
-        (NeedsEnds (F.holds files.old) (Rose (F.faults files.old) (F.faults files.new)))
-        read.entry.now (came_to result) }
+    ensures came { ReadCame needs_request
+        (NeedsEnds (F.holds files.old) (Rose (F.faults files.old) (F.faults files.new))) no_files
+        (F.holds files.old) (F.holds files.new) read.entry.now (came_to result) }
     ensures same { F.holds files.new ≡ F.holds files.old }
     ensures never_falls { F.faults files.old ≤ F.faults files.new }
 {
     match read {
         Ok(words) => needs_report(alloc, words, files),
+        Err(error) => Err(Refusal::from(*error)),
+    }
+}
+
+/// The command `deal`, with the words after it.
+pub fn deal_command<F: Files, S: Sink>(
+    alloc: Global,
+    words: &[String],
+    files: &mut F,
+    out: &mut S,
+) -> u8
+    ensures ended { EndsAs (AsksDeal (texts words.entry.now)) DealEnds deal_files
+        (outside (F.holds files.old) (F.faults files.old) (S.appended out.old) (S.faults out.old))
+        (outside (F.holds files.new) (F.faults files.new) (S.appended out.new) (S.faults out.new)) result }
+    ensures usage { IsUsage (AsksDeal (texts words.entry.now)) result }
+    ensures done { IsDone (AsksDeal (texts words.entry.now)) DealEnds
+        (outside (F.holds files.old) (F.faults files.old) (S.appended out.old) (S.faults out.old))
+        (outside (F.holds files.new) (F.faults files.new) (S.appended out.new) (S.faults out.new)) result }
+    ensures complete { IsComplete (AsksDeal (texts words.entry.now)) DealEnds
+        (outside (F.holds files.old) (F.faults files.old) (S.appended out.old) (S.faults out.old))
+        (outside (F.holds files.new) (F.faults files.new) (S.appended out.new) (S.faults out.new)) result }
+    ensures stored { IsStored (AsksDeal (texts words.entry.now)) deal_files
+        (F.holds files.old) (F.holds files.new) result }
+    ensures files_never_fall { F.faults files.old ≤ F.faults files.new }
+    ensures out_never_falls { S.faults out.old ≤ S.faults out.new }
+{
+    let read = read_deal(alloc, offers(), words);
+    let outcome = run_deal(alloc, &read, files);
+    end(alloc, out, outcome)
+}
+
+/// What comes of the words after `deal`, as they were read.
+fn run_deal<'a, F: Files>(
+    alloc: Global,
+    read: &'a Result<DealWords, WordsError>,
+    files: &mut F,
+) -> Result<String, Refusal<'a>>
+    ensures came { ReadCame deal_request
+        (DealEnds (F.holds files.old) (Rose (F.faults files.old) (F.faults files.new))) deal_files
+        (F.holds files.old) (F.holds files.new) read.entry.now (came_to result) }
+    ensures never_falls { F.faults files.old ≤ F.faults files.new }
+{
+    match read {
+        Ok(words) => deal_report(alloc, words, files),
         Err(error) => Err(Refusal::from(*error)),
     }
 }
@@ -160,7 +228,7 @@ pub fn local_command<F: Files, S: Sink>(
     files: &mut F,
     out: &mut S,
 ) -> u8
-    ensures ended { EndsAs (AsksLocal (texts words.entry.now)) LocalEnds
+    ensures ended { EndsAs (AsksLocal (texts words.entry.now)) LocalEnds no_files
         (outside (F.holds files.old) (F.faults files.old) (S.appended out.old) (S.faults out.old))
         (outside (F.holds files.new) (F.faults files.new) (S.appended out.new) (S.faults out.new)) result }
     ensures usage { IsUsage (AsksLocal (texts words.entry.now)) result }
@@ -185,9 +253,9 @@ fn run_local<'a, F: Files>(
     read: &'a Result<LocalWords, WordsError>,
     files: &mut F,
 ) -> Result<String, Refusal<'a>>
-    ensures came { ReadEnds local_request
-        (LocalEnds (F.holds files.old) (Rose (F.faults files.old) (F.faults files.new)))
-        read.entry.now (came_to result) }
+    ensures came { ReadCame local_request
+        (LocalEnds (F.holds files.old) (Rose (F.faults files.old) (F.faults files.new))) no_files
+        (F.holds files.old) (F.holds files.new) read.entry.now (came_to result) }
     ensures same { F.holds files.new ≡ F.holds files.old }
     ensures never_falls { F.faults files.old ≤ F.faults files.new }
 {

@@ -1,4 +1,6 @@
-ghost use Rattle.std.specs.Prelude.{◌≡◌, IfOk, string_bytes};
+ghost use Rattle.std.specs.Prelude.{◌≡◌, codes, IfOk, string_bytes};
+ghost use Rattle.motion_cli.specs.Outcome.{line, about};
+ghost use Rattle.motion_cli.specs.Parts.{part_name};
 ghost use Rattle.motion_cli.specs.Refusal.{status_of, line_of, cause_of, circuit_cause, values_cause};
 
 use crate::status::Status;
@@ -39,11 +41,17 @@ pub enum Refusal<'a> {
         name: &'a str,
         cause: FileCause,
     },
+    /// The file of a party's part, which is named by this prefix, was not stored.
+    Part {
+        prefix: &'a str,
+        party: u8,
+        cause: FileCause,
+    },
     /// Memory ran out.
     Memory,
 }
 
-/// Why a file was not loaded.
+/// Why a file was not loaded, or not stored.
 #[derive(Clone, Copy, Debug, PartialEq, Eq)]
 pub enum FileCause {
     /// There is no file of that name.
@@ -98,6 +106,16 @@ fn values_word(cause: ValuesCause) -> &'static str
     }
 }
 
+/// The line of a part whose file was not stored.
+fn part_line(alloc: Global, prefix: &str, party: u8, cause: FileCause) -> Result<String, AllocError>
+    ensures { IfOk result (λ text.
+        string_bytes text ≡ about (codes "file") (part_name prefix.now party) (line (cause_of cause))) }
+{
+    let cause = cause.word();
+    let text = format!(in alloc; "file {prefix}.{party}: {cause}\n")?;
+    Ok(text)
+}
+
 impl Refusal<'_> {
     /// The status that the program ends with.
     pub fn status(&self) -> Status
@@ -109,7 +127,7 @@ impl Refusal<'_> {
                 Status::Circuit
             }
             Refusal::Values { .. } => Status::Values,
-            Refusal::File { .. } => Status::File,
+            Refusal::File { .. } | Refusal::Part { .. } => Status::File,
             Refusal::Memory => Status::Memory,
         }
     }
@@ -134,6 +152,11 @@ impl Refusal<'_> {
                 let cause = cause.word();
                 format!(in alloc; "file {name}: {cause}\n")
             }
+            Refusal::Part {
+                prefix,
+                party,
+                cause,
+            } => part_line(alloc, prefix, *party, *cause),
             Refusal::Memory => String::from_str(alloc, "memory\n"),
         }
     }

@@ -8,7 +8,7 @@ ghost use Rattle.mixed_circuit.specs.Said.{AreEarlier};
 ghost use Rattle.mixed_circuit.specs.Eval.{inputs_taken, value_made, seen_of, IsEvaluated};
 ghost use Rattle.motion_cli.specs.Run.{is_run, is_built, triples_taken, word_of_shares, input_shares, each_by_itself, left_opened, right_opened, product_shares, shares_made, given_to, IsRun};
 
-use crate::deal::{DealtTriple, dealt_triple};
+use crate::deal::{DEALER, DealtTriple, dealt_triple};
 use arithmetic_gmw::{add, mul_close, mul_open, share_out, sub};
 use circuit_values::Receiver;
 use mixed_circuit::{Form, Mixed};
@@ -122,9 +122,6 @@ fn triples_taken(form: Form) -> u32
 
 /// The session of a run: there is no other with its tapes.
 const SESSION: u32 = 0;
-
-/// The label under which the dealer's tape is derived. A party's is its number.
-const DEALER: u8 = 255;
 
 /// The shares of a statement's value at a gate, from the number of the triple that is next, the statement's
 /// input, if it is one, and the shares of the statements before it.

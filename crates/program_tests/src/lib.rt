@@ -2,6 +2,8 @@
 #![tactic(auto)]
 
 #[cfg(test)]
+mod deals;
+#[cfg(test)]
 mod machine;
 #[cfg(test)]
 mod needs;

@@ -1,6 +1,6 @@
 //! The program on a machine in memory.
 use mot_base::{MemFiles, MemSink};
-use motion_cli::{local_command, motion, needs_command, plain_command};
+use motion_cli::{deal_command, local_command, motion, needs_command, plain_command};
 use std::alloc::{AllocError, Global};
 use std::test::Fail;
 
@@ -12,8 +12,8 @@ pub(crate) const SEED: &str = "0000000000000000000000000000000000000000000000000
 pub(crate) struct Machine<'a> {
     /// The name of each file and its content.
     pub(crate) files: &'a [(&'a str, &'a str)],
-    /// The numbers, from 1, of the loads that fail.
-    pub(crate) failing_loads: &'a [u64],
+    /// The numbers, from 1, of the calls on files that fail.
+    pub(crate) failing_calls: &'a [u64],
     /// How many bytes the output takes.
     pub(crate) room: usize,
     /// The numbers, from 1, of the writes that fail.
@@ -24,6 +24,7 @@ pub(crate) struct Machine<'a> {
 #[derive(Drop)]
 pub(crate) struct End {
     pub(crate) status: u8,
+    files: MemFiles,
     out: MemSink,
 }
 
@@ -32,6 +33,11 @@ impl End {
     pub(crate) fn written(&self) -> &[u8] {
         self.out.bytes()
     }
+
+    /// What a name holds.
+    pub(crate) fn held(&self, name: &str) -> Option<&[u8]> {
+        self.files.get(name)
+    }
 }
 
 impl<'a> Machine<'a> {
@@ -39,7 +45,7 @@ impl<'a> Machine<'a> {
     pub(crate) fn new(files: &'a [(&'a str, &'a str)]) -> Machine<'a> {
         Machine {
             files,
-            failing_loads: &[],
+            failing_calls: &[],
             room: 1000,
             failing_writes: &[],
         }
@@ -56,16 +62,16 @@ impl<'a> Machine<'a> {
         let mut files = self.files(alloc)?;
         let mut out = self.out(alloc)?;
         let status = local_command(alloc, words.as_slice(), &mut files, &mut out);
-        Ok(End { status, out })
+        Ok(End { status, files, out })
     }
 
-    /// Runs the command `needs` on the words after it.
-    pub(crate) fn run_needs(&self, alloc: Global, words: &[&str]) -> Result<End, Fail> {
+    /// Runs the command `deal` on the words after it.
+    pub(crate) fn run_deal(&self, alloc: Global, words: &[&str]) -> Result<End, Fail> {
         let words = strings(alloc, words)?;
         let mut files = self.files(alloc)?;
         let mut out = self.out(alloc)?;
-        let status = needs_command(alloc, words.as_slice(), &mut files, &mut out);
-        Ok(End { status, out })
+        let status = deal_command(alloc, words.as_slice(), &mut files, &mut out);
+        Ok(End { status, files, out })
     }
 
     /// Runs the command `plain` on the words after it.
@@ -74,7 +80,16 @@ impl<'a> Machine<'a> {
         let mut files = self.files(alloc)?;
         let mut out = self.out(alloc)?;
         let status = plain_command(alloc, words.as_slice(), &mut files, &mut out);
-        Ok(End { status, out })
+        Ok(End { status, files, out })
+    }
+
+    /// Runs the command `needs` on the words after it.
+    pub(crate) fn run_needs(&self, alloc: Global, words: &[&str]) -> Result<End, Fail> {
+        let words = strings(alloc, words)?;
+        let mut files = self.files(alloc)?;
+        let mut out = self.out(alloc)?;
+        let status = needs_command(alloc, words.as_slice(), &mut files, &mut out);
+        Ok(End { status, files, out })
     }
 
     fn files(&self, alloc: Global) -> Result<MemFiles, Fail> {
@@ -88,7 +103,7 @@ impl<'a> Machine<'a> {
             .iter()
             .map(|(_, content)| Vec::from_slice(alloc, content.as_bytes()))
             .try_collect(alloc)?;
-        let failing = Vec::from_slice(alloc, self.failing_loads)?;
+        let failing = Vec::from_slice(alloc, self.failing_calls)?;
         Ok(MemFiles::new(names, contents, failing))
     }
 
@@ -107,7 +122,7 @@ pub(crate) fn run_over(
 ) -> Result<End, Fail> {
     let words = strings(alloc, words)?;
     let status = motion(alloc, words.as_slice(), &mut files, &mut out);
-    Ok(End { status, out })
+    Ok(End { status, files, out })
 }
 
 fn strings(alloc: Global, words: &[&str]) -> Result<Vec<String>, AllocError> {

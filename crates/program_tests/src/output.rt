@@ -119,7 +119,7 @@ fn a_cut_report_ends_with_its_own_status(rt: HostRuntime) -> Result<(), Fail> {
     for writing in &WRITINGS {
         let machine = Machine {
             files: &FILES,
-            failing_loads: &[],
+            failing_calls: &[],
             room: writing.room,
             failing_writes: writing.failing_writes,
         };
