@@ -70,6 +70,20 @@ impl Outputs {
         Ok(())
     }
 
+    /// Adds an output with some bits at the end.
+    pub fn push_bits(&mut self, name: &str, to: Receiver, bits: &[bool]) -> Result<(), NoMemory>
+        requires { length self.old < most_gates }
+        ensures ok { OnOk result (self.new
+            ≡ self.old ++ record { name = name.now; to = to; bits = bits.now } ∷ []) }
+        ensures err { OnErr result (self.new ≡ self.old) }
+    {
+        let alloc = *self.outputs.allocator();
+        let name = String::from_str(alloc, name)?;
+        let bits = bits.to_vec(alloc)?;
+        self.outputs.push(Told { name, to, bits })?;
+        Ok(())
+    }
+
     /// The number of outputs.
     pub fn len(&self) -> u32
         ensures value { result ≡ length self.now }
