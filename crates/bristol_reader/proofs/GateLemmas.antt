@@ -5,10 +5,7 @@ use Rattle.std.proofs.lemmas.List.{take-append-le, drop-append-le, length-drop, 
 use Rattle.bristol_reader.specs.declared.kind.BristolKind.{BristolKind}
 use Rattle.bristol_reader.specs.declared.gates.Placed.{Placed}
 use Rattle.bristol_reader.specs.Circuit.{Gate}
-use Rattle.bristol_reader.specs.Stored.{placed_gate, ArePlaced}
-
-abbrev pub a_gate : BristolKind → List ℕ → List ℕ → Gate
-a_gate kind ins outs = record { kind = kind; ins = ins; outs = outs }
+use Rattle.bristol_reader.specs.Stored.{a_gate, placed_gate, ArePlaced}
 
 part_kept : (row more : List ℕ) (at n : ℕ) → at + n ≤ length row → take n (drop at (row ++ more)) ≡ take n (drop at row)
 part_kept row more at n h =

@@ -9,3 +9,7 @@ pub mod AddedLemmas
 pub mod UsedLemmas
 pub mod LastLemmas
 pub mod ReadLemmas
+pub mod EvalLemmas
+pub mod InputLemmas
+pub mod WidthLemmas
+pub mod TableLemmas

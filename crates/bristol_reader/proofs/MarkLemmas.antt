@@ -65,7 +65,7 @@ new_more before ws w new unmarked apart =
     ∙ and_from _ _ parts.0 (and_from _ true (not_from_false _ unmarked) refl))
     (apart_more ws w ∙ and_from _ _ parts.1 (not_from_false _ apart))
 
-among_more : (ws : List ℕ) (v w : ℕ) → is_among (ws ++ v ∷ []) w ≡ (is_among ws w || (v == w))
+pub among_more : (ws : List ℕ) (v w : ℕ) → is_among (ws ++ v ∷ []) w ≡ (is_among ws w || (v == w))
 among_more ws v w = list_any-append (λ y. y == w) ws (v ∷ []) ∙ ap (λ (b : Bool). is_among ws w || b) (or_false (v == w))
 
 mark_each : (before now : List Bool) (ws : List ℕ) (v : ℕ) → v < length before → IsMarked before ws now → (w : ℕ) → w < length before → is_marked (set now v true) w ≡ (is_marked before w || is_among (ws ++ v ∷ []) w)
@@ -93,7 +93,7 @@ mark_more before now ws k w within here bound to free =
       };
     }
 
-cut_at : (ws : List ℕ) (k : ℕ) → k < length ws → ws ≡ take k ws ++ get_or ws k 0 ∷ drop (k + 1) ws
+pub cut_at : (ws : List ℕ) (k : ℕ) → k < length ws → ws ≡ take k ws ++ get_or ws k 0 ∷ drop (k + 1) ws
 cut_at ws k h = sym (take-append-drop k ws) ∙ ap (λ (r : List ℕ). take k ws ++ r) (drop_more ws k 0 h)
 
 pub mark_fails : (before now : List Bool) (ws : List ℕ) (k w : ℕ) → k < length ws → get_or ws k 0 ≡ w → w < length before → MarkedTo before ws k now → is_marked now w ≡ true → are_new_to before ws ≡ false

@@ -6,3 +6,6 @@ pub mod Grammar
 pub mod Gives
 pub mod Built
 pub mod Stored
+pub mod Table
+pub mod Eval
+pub mod Cut

@@ -1,11 +1,13 @@
 -- Gates and numbers as the code keeps them.
-use Rattle.std.specs.Prelude.{ℕ, ◌≡◌, ◌+◌, ◌-◌, ◌^◌, ◌≤◌, Bool, List, length, take, drop, map, slice_get, Option, Some, Result, option_map, min}
+use Rattle.std.specs.Prelude.{ℕ, ◌≡◌, ◌+◌, ◌-◌, ◌^◌, ◌≤◌, Bool, not, ◌||◌, List, length, take, drop, map, slice_get, Option, Some, Result, option_map, min}
+use Rattle.std.specs.List.{list_all}
 use Rattle.bristol_reader.specs.declared.gates.Placed.{Placed}
 use Rattle.bristol_reader.specs.declared.line.Stated.{Stated}
 use Rattle.bristol_reader.specs.declared.cause.BristolCause.{BristolCause}
 use Rattle.bristol_reader.specs.declared.cause.BristolCause.TheVariants.{Header, GateName, Arity}
-use Rattle.bristol_reader.specs.Kinds.{kind_of}
-use Rattle.bristol_reader.specs.Circuit.{Gate, Sizes, Progress}
+use Rattle.bristol_reader.specs.declared.kind.BristolKind.{BristolKind}
+use Rattle.bristol_reader.specs.Kinds.{kind_of, is_constant}
+use Rattle.bristol_reader.specs.Circuit.{Gate, Sizes, Progress, is_among}
 use Rattle.bristol_reader.specs.Line.{numbers_of, last_word, front_words, adds_numbers}
 use Rattle.bristol_reader.specs.Grammar.{sizes_in, widths_in}
 use Rattle.text_lines.specs.Text.{Text}
@@ -47,3 +49,11 @@ adds_kept p words = do
   kind ← or_cause GateName (kind_of (last_word words))
   numbers ← or_cause Arity (capped_numbers (front_words words))
   adds_numbers p kind numbers
+
+-- a gate of these parts
+abbrev pub a_gate : BristolKind → List ℕ → List ℕ → Gate
+a_gate kind ins outs = record { kind = kind; ins = ins; outs = outs }
+
+-- whether no input wire of a gate is one of its outputs
+abbrev pub reads_none_of : Gate → Bool
+reads_none_of g = is_constant g.kind || list_all (λ w. not (is_among g.outs w)) g.ins

@@ -43,6 +43,22 @@ impl Bristol {
         }
     }
 
+    /// How many wires each input value has.
+    pub(crate) fn input_widths(&self) -> &Widths
+        ensures value { result.now ≡ self.entry.now.inputs }
+        ensures circuit { IsCircuit self.entry.now }
+    {
+        &self.inputs
+    }
+
+    /// How many wires each output value has.
+    pub(crate) fn output_widths(&self) -> &Widths
+        ensures value { result.now ≡ self.entry.now.outputs }
+        ensures circuit { IsCircuit self.entry.now }
+    {
+        &self.outputs
+    }
+
     /// The number of wires, at most 4,194,304.
     pub fn wires(&self) -> u32
         ensures value { result ≡ self.now.wires }

@@ -4,6 +4,7 @@
 mod builder;
 mod cause;
 mod circuit;
+mod evaluate;
 mod gates;
 mod header;
 mod kind;
@@ -12,9 +13,13 @@ mod marks;
 mod number;
 mod read;
 mod stage;
+mod tables;
+mod telling;
 mod widths;
 
 pub use cause::{BristolCause, BristolError};
 pub use circuit::Bristol;
+pub use evaluate::evaluates_once;
 pub use kind::BristolKind;
 pub use read::{each_text_reads_or_faults, read_bristol};
+pub use telling::plain_bristol;

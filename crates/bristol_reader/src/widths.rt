@@ -42,10 +42,12 @@ impl Widths {
     }
 
     /// How many values there are.
-    pub fn len(&self) -> usize
-        ensures { result ≡ length self.now }
+    pub fn len(&self) -> u32
+        ensures value { result ≡ length self.now }
+        ensures few { result ≤ sum self.now }
     {
-        self.list.len()
+        let _total = self.total;
+        self.list.len() as u32
     }
 
     /// How many wires the values have together.
@@ -57,10 +59,10 @@ impl Widths {
     }
 
     /// How many wires a value has.
-    pub fn width(&self, at: usize) -> u32
+    pub fn width(&self, at: u32) -> u32
         requires { at < length self.now }
         ensures { result ≡ slice_index self.now at }
     {
-        self.list[at]
+        self.list[at as usize]
     }
 }

@@ -122,7 +122,7 @@ fn push_next(
         return Ok(0);
     }
     let width = table.width(at) as usize;
-    outputs.push_told(table.name(at), table.receiver(at), &left[..width])?;
+    outputs.push_bits(table.name(at), table.receiver(at), &left[..width])?;
     Ok(width)
 }
 

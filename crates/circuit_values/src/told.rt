@@ -70,13 +70,8 @@ impl Outputs {
         Ok(())
     }
 
-    /// Adds an output with these bits, at the end.
-    pub(crate) fn push_told(
-        &mut self,
-        name: &str,
-        to: Receiver,
-        bits: &[bool],
-    ) -> Result<(), NoMemory>
+    /// Adds an output with some bits at the end.
+    pub fn push_bits(&mut self, name: &str, to: Receiver, bits: &[bool]) -> Result<(), NoMemory>
         requires { length self.old < most_gates }
         ensures ok { OnOk result (self.new
             ≡ self.old ++ record { name = name.now; to = to; bits = bits.now } ∷ []) }
