@@ -128,7 +128,8 @@ line_for offers command pieces =
     (value_for offers command pieces As)
 
 -- the line that the words after the name of a command make, where the command is run
-pub record IsLine (offers : List Offer) (command : Command) (words : List Text) (line : LineTexts) : Type 0 where
+pub record IsLine (offers : List Offer) (command : Command) (words : List Text) (line : LineTexts) :
+    Type 0 where
   pub offered : is_offered offers command ≡ true
   pub pieces : List Piece
   pub spelt : cut Between words ≡ Some pieces

@@ -8,8 +8,8 @@ use Rattle.motion_cli.specs.Ending.{AreLeft, AreFirst}
 use Rattle.motion_cli.specs.Outcome.{Outcome, file_refused, usage, memory}
 
 -- A command said this, with some first ones of its files stored: an end of it, or want of memory.
-pub record Came (ends : Outcome → Type 0) (files : List (Text × Text)) (before after : Option Holding) (said : Outcome) :
-    Type 0 where
+pub record Came (ends : Outcome → Type 0) (files : List (Text × Text)) (before after : Option Holding)
+    (said : Outcome) : Type 0 where
   pub stored : List (Text × Text)
   pub torn : Option Text
   pub cause : ends (record said { stored = stored; torn = torn }) ⊎ (said ≡ memory)
@@ -24,10 +24,10 @@ ReadCame request_of ends files before after (Ok words) said =
 ReadCame request_of ends files before after (Err Usage) said = (after ≡ before) × (said ≡ usage)
 ReadCame request_of ends files before after (Err NoMemory) said = (after ≡ before) × (said ≡ memory)
 
--- The stores of files stopped at one of them: those before it are stored, and of its name nothing is known. The
--- files failed, which is told by that name, or memory ran out.
-pub record IsStopped (rose : Type 0) (files : List (Text × Text)) (before after : Option Holding) (said : Outcome) :
-    Type 0 where
+-- The stores of files stopped at one of them: those before it are stored, and of its name nothing is known.
+-- The files failed, which is told by that name, or memory ran out.
+pub record IsStopped (rose : Type 0) (files : List (Text × Text)) (before after : Option Holding)
+    (said : Outcome) : Type 0 where
   pub at : ℕ
   pub file : Text × Text
   pub there : slice_get files at ≡ Some file

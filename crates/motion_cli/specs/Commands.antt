@@ -94,7 +94,7 @@ LocalReads request circuit values =
 abbrev pub LocalEnds : Option Holding → Type 0 → LocalRequest → Outcome → Type 0
 LocalEnds told rose request = LoadsBoth told rose request.circuit request.values (LocalReads request)
 
--- `deal`: parts that are too long are told by the name of the first, and else the part of each party is stored
+-- `deal`: parts that are too long are told by the name of the first, and else each party's part is stored
 abbrev pub DealEnds : Option Holding → Type 0 → DealRequest → Outcome → Type 0
 DealEnds told rose request =
     Unless (most_file_bytes < part_length request)

@@ -59,8 +59,8 @@ AreLeft (Some held) (Some now) stored torn =
     (name : Text) → Some name ≢ torn → now name ≡ after_stores held stored name
 AreLeft (Some held) None stored torn = ⊥
 
--- of these files none is stored; or some first ones are, and of the name of the next, if there is one, nothing is
--- known any more
+-- of these files none is stored; or some first ones are, and of the name of the next, if there is one, nothing
+-- is known any more
 abbrev pub AreFirst : List (Text × Text) → List (Text × Text) → Option Text → Type 0
 AreFirst files stored torn =
     ((stored ≡ []) × (torn ≡ None))
@@ -80,8 +80,8 @@ Wants files end =
     (stored : List (Text × Text)) × (torn : Option Text) × AreFirst files stored torn
     × (end ≡ record memory { stored = stored; torn = torn })
 
--- memory runs out; or words that ask for nothing end with the usage, and words that ask for something end as that
--- ends, or with want of memory while its files are stored
+-- memory runs out; or words that ask for nothing end with the usage, and words that ask for something end as
+-- that ends, or with want of memory while its files are stored
 abbrev pub Asked : {R : Type 0} →
     (R → Type 0) → (R → Outcome → Type 0) → (R → List (Text × Text)) → Outcome → Type 0
 Asked {R} asks ends files end =
@@ -94,12 +94,13 @@ Asked {R} asks ends files end =
 abbrev pub Leading : Type 0 → Type 1
 Leading R = Option Holding → Type 0 → R → Outcome → Type 0
 
--- a call ended as its words lead to, by what files were told to hold, by whether their count of faults rose, and by
--- the files that a request stores
+-- a call ended as its words lead to, by what files were told to hold, by whether their count of faults rose,
+-- and by the files that a request stores
 abbrev pub EndsAs : {R : Type 0} →
     (R → Type 0) → Leading R → (R → List (Text × Text)) → Outside → Outside → ℕ → Type 0
 EndsAs asks leads files before after status =
-    Ended (Asked asks (leads before.held (Rose before.file_faults after.file_faults)) files) before after status
+    Ended (Asked asks (leads before.held (Rose before.file_faults after.file_faults)) files)
+    before after status
 
 -- a command that stores nothing
 abbrev pub no_files : {R : Type 0} → R → List (Text × Text)

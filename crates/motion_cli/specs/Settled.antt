@@ -31,11 +31,11 @@ IsComplete {R} asks ends before after status =
     ((status ≡ code_of end.status) × (after.appended ≡ with_more before.appended end.text))
     ⊎ (status ≡ 11)
 
--- What the files hold after a call, by its status: some first ones of the files that its words ask to be stored are
--- stored, of the name of the next nothing is known, and all other names hold what they held. At status 0 and 9 all
--- of them are stored, and at status 1 none is.
-pub record IsStored {R : Type 0} (asks : R → Type 0) (files : R → List (Text × Text)) (before after : Option Holding)
-    (status : ℕ) : Type 0 where
+-- What the files hold after a call, by its status: some first ones of the files that its words ask to be
+-- stored are stored, of the name of the next nothing is known, and all other names hold what they held. At
+-- status 0 and 9 all of them are stored, and at status 1 none is.
+pub record IsStored {R : Type 0} (asks : R → Type 0) (files : R → List (Text × Text))
+    (before after : Option Holding) (status : ℕ) : Type 0 where
   pub stored : List (Text × Text)
   pub torn : Option Text
   pub left : AreLeft before after stored torn

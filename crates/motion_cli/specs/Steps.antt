@@ -41,8 +41,8 @@ ReadsAs {F} {C} faulty refusal_of reads next end =
 abbrev pub Unless : Type 0 → Outcome → (Outcome → Type 0) → Outcome → Type 0
 Unless cause answer next end = (cause × (end ≡ answer)) ⊎ (¬ cause × next end)
 
--- files are stored, one after another: all of them, and the command ends with this; or the files failed at one
--- of them, of whose name nothing is known any more, and those before it are stored
+-- files are stored, one after another: all of them, and the command ends with this; or the files failed at
+-- one of them, of whose name nothing is known any more, and those before it are stored
 abbrev pub StoresAll : Type 0 → List (Text × Text) → Outcome → Outcome → Type 0
 StoresAll rose files done end =
     (end ≡ record done { stored = files })

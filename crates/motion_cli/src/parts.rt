@@ -87,7 +87,8 @@ fn store_parts<'a, F: Files>(
 ) -> Result<(), Refusal<'a>>
     requires { All (λ part. file_length part.parties (counts_of part) ≤ most_file_bytes) parts.now }
     ensures stored { OnOk result
-        (AreLeft (F.holds files.old) (F.holds files.new) (map (part_file prefix.entry.now) parts.entry.now) None) }
+        (AreLeft (F.holds files.old) (F.holds files.new)
+        (map (part_file prefix.entry.now) parts.entry.now) None) }
     ensures stopped { IfErr result (λ refusal. IsStopped
         (Rose (F.faults files.old) (F.faults files.new)) (map (part_file prefix.entry.now) parts.entry.now)
         (F.holds files.old) (F.holds files.new) (outcome_of refusal)) }

@@ -77,7 +77,8 @@ fn run_words<'a, F: Files>(
     ensures came { Came
         (RequestEnds (F.holds files.old) (Rose (F.faults files.old) (F.faults files.new))
         (request_of words.entry.now))
-        (request_files (request_of words.entry.now)) (F.holds files.old) (F.holds files.new) (came_to result) }
+        (request_files (request_of words.entry.now))
+        (F.holds files.old) (F.holds files.new) (came_to result) }
     ensures same { StoresNothing (request_of words.entry.now) → F.holds files.new ≡ F.holds files.old }
     ensures never_falls { F.faults files.old ≤ F.faults files.new }
 {

@@ -1,6 +1,7 @@
 //! Lines of words and what they ask for.
 use cli_words::{
-    BristolWords, Command, CommandWords, Offer, OptionName, Sharing, WordsError, read_words,
+    BristolWords, Command, CommandWords, Offer, OptionName, Sharing, WordsError, read_deal,
+    read_local, read_needs, read_plain, read_words,
 };
 use std::alloc::{AllocError, Global};
 use std::test::Fail;
@@ -307,7 +308,27 @@ fn shown(alloc: Global, words: &CommandWords) -> Result<String, AllocError> {
 /// The reading of a line: what it asks for, or `usage`.
 fn reading(alloc: Global, offers: &[Offer], line: &[&str]) -> Result<String, AllocError> {
     let words = words_of(alloc, line)?;
-    match read_words(alloc, offers, words.as_slice()) {
+    shown_reading(alloc, read_words(alloc, offers, words.as_slice()))
+}
+
+/// The reading of the words behind a command's name, by the call of that command.
+fn reading_of_rest(alloc: Global, command: Command, rest: &[&str]) -> Result<String, AllocError> {
+    let words = words_of(alloc, rest)?;
+    let words = words.as_slice();
+    let asked = match command {
+        Command::Plain => read_plain(alloc, &ALL, words).map(CommandWords::Plain),
+        Command::Needs => read_needs(alloc, &ALL, words).map(CommandWords::Needs),
+        Command::Deal => read_deal(alloc, &ALL, words).map(CommandWords::Deal),
+        Command::Local => read_local(alloc, &ALL, words).map(CommandWords::Local),
+    };
+    shown_reading(alloc, asked)
+}
+
+fn shown_reading(
+    alloc: Global,
+    asked: Result<CommandWords, WordsError>,
+) -> Result<String, AllocError> {
+    match asked {
         Ok(asked) => shown(alloc, &asked),
         Err(WordsError::Usage) => String::from_str(alloc, "usage"),
         Err(WordsError::NoMemory) => String::from_str(alloc, "memory"),
@@ -319,6 +340,39 @@ fn lines_are_read_by_the_whole_table(rt: HostRuntime) -> Result<(), Fail> {
     for (line, wanted) in &READ {
         let seen = reading(rt.alloc(), &ALL, line)?;
         assert_eq!(rt; seen.as_str(), *wanted, "{line:?}");
+    }
+    Ok(())
+}
+
+// a command and the words behind its name, with their reading
+static RESTS: [(Command, &[&str], &str); 8] = [
+    (
+        Command::Plain,
+        &["c", "--as=B", "v", "--parties", "2"],
+        "plain c v B 2",
+    ),
+    (Command::Plain, &["plain", "c", "v"], "usage"),
+    (Command::Needs, &["--", "-c"], "needs -c"),
+    (Command::Needs, &[], "usage"),
+    (
+        Command::Deal,
+        &["d", LOWER, "3", "1", "2", "3", "4"],
+        "deal d 77 3 1 2 3 4",
+    ),
+    (Command::Deal, &["d", LOWER, "3", "1", "2", "3"], "usage"),
+    (
+        Command::Local,
+        &["--dealer", "d", "c", "v", UPPER],
+        "local c v 77 from d",
+    ),
+    (Command::Local, &["c", "v"], "usage"),
+];
+
+#[test]
+fn each_command_reads_the_words_behind_its_name(rt: HostRuntime) -> Result<(), Fail> {
+    for (command, rest, wanted) in &RESTS {
+        let seen = reading_of_rest(rt.alloc(), *command, rest)?;
+        assert_eq!(rt; seen.as_str(), *wanted, "{rest:?}");
     }
     Ok(())
 }
