@@ -224,7 +224,7 @@ impl DealerPart {
 /// The vector that has at each place the bit of that number of the record there.
 fn vector(records: &[u8], bit: u8) -> Bits
     requires some { 1 ≤ length records.now }
-    requires most { length records.now ≤ 64 }
+    requires most { length records.now ≤ most_width }
     requires bit { bit < 8 }
     ensures word { result.word ≡ vector_of bit records.now }
     ensures width { result.width ≡ length records.now }
@@ -237,7 +237,7 @@ fn vector(records: &[u8], bit: u8) -> Bits
 
 /// The number of that vector.
 fn packed(records: &[u8], bit: u8) -> u64
-    requires most { length records.now ≤ 64 }
+    requires most { length records.now ≤ most_width }
     requires bit { bit < 8 }
     ensures word { result ≡ vector_of bit records.now }
     ensures below { result < 2 ^ length records.now }
