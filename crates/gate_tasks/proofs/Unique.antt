@@ -4,9 +4,8 @@ use Rattle.std.specs.Prelude.{slice_get, get_or, nat_lt, if◌then◌else◌}
 use Rattle.gate_plan.specs.Messages.{are_two}
 use Rattle.std.proofs.lemmas.Bool.{ltb-true}
 use Rattle.std.proofs.Math.Path.{fun_ext}
-use Rattle.gate_plan.specs.Gate.{Gate}
 use Rattle.gate_plan.specs.Plan.{Gates}
-use Rattle.gate_tasks.specs.Party.{Own, Value, Payload, Heard, Rounds, Inbox, Hand, parties, hand, before, silence, sends_at, round_sends, value_at, wires_before}
+use Rattle.gate_tasks.specs.Party.{Own, Value, Payload, Rounds, Inbox, parties, hand, before, silence, sends_at, round_sends, value_at, wires_before}
 use Rattle.gate_tasks.specs.Joint.{Payloads, column, sent_by, IsJoint}
 use Rattle.gate_tasks.specs.Laws.{OneJointRun}
 use Rattle.gate_tasks.proofs.Causal.{solution, IsCausal, solves, only}
@@ -59,7 +58,7 @@ module _ (plan : Gates) (owns : List Own) where
       by sender to (Some own) =
           let h = hand plan sender own g (wires_before plan sender own (column table sender) g) in
           let earlier = before-same r (λ k q. rounds k q sender) (λ k q. other k q sender)
-              (λ k less. ap (λ (x : OfRound). λ (q : ℕ). x q sender) (same k less)) in
+          (λ k less. ap (λ (x : OfRound). λ (q : ℕ). x q sender) (same k less)) in
           ap (λ (b : Rounds). if are_two (parties h) h.me to then get_or (sends_at (slice_get plan.gates g) h b) r silence to else []) earlier
 
   -- all rounds of a gate, from the payloads of earlier gates
@@ -95,7 +94,7 @@ module _ (plan : Gates) (owns : List Own) where
       let at_gate = solves OfGate no_gate gate_rounds gate-causal g in
       let at_round = solves OfRound no_round (made joint g) (round-causal joint g) r in
       let here : joint g r ≡ made joint g r (joint g) =
-          ap (λ (x : OfGate). x r) at_gate ∙ (at_round ∙ ap (λ (x : OfGate). made joint g r x) (sym at_gate)) in
+      ap (λ (x : OfGate). x r) at_gate ∙ (at_round ∙ ap (λ (x : OfGate). made joint g r x) (sym at_gate)) in
       ap (λ (x : OfRound). x sender to) here ∙ sym (sent_is joint g r sender to (slice_get owns sender))
 
   only_joint : (other : Payloads) → IsJoint plan owns other → other ≡ joint

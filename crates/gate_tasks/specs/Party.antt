@@ -1,11 +1,10 @@
 -- What a party makes of its own data and of what it is sent: for each kind of gate the party's value, and what it sends.
-use Rattle.std.specs.Prelude.{ℕ, zero, suc, ◌+◌, ◌*◌, ◌/◌, ◌%◌, ◌^◌, Bool, ◌&&◌, not, ◌==◌, nat_lt, List, [], ◌∷◌, ◌++◌, take, drop, slice_get, slice_index, get_or, Option, Some, None, if◌then◌else◌, bit_and, bit_xor}
+use Rattle.std.specs.Prelude.{ℕ, zero, suc, ◌+◌, ◌*◌, ◌/◌, ◌%◌, ◌^◌, Bool, ◌==◌, nat_lt, List, [], ◌∷◌, ◌++◌, take, drop, slice_get, get_or, Option, Some, None, if◌then◌else◌, bit_and, bit_xor}
 use Rattle.mot_base.specs.Tape.{share_of_tape}
 use Rattle.share_types.specs.declared.needs.Needs.{Needs}
 use Rattle.share_types.specs.declared.records.MultTriple.{MultTriple}
 use Rattle.share_types.specs.Bits.{number}
 use Rattle.share_types.specs.Sums.{word_sum, word_difference, word_product, part_of_public, sum_to, xor_to}
-use Rattle.circuit_values.specs.declared.receiver.Receiver.{Receiver}
 use Rattle.arithmetic_gmw.specs.Shares as arithmetic
 use Rattle.dealer_files.specs.Part.{Part}
 use Rattle.dealer_files.specs.Records.{vector_of}

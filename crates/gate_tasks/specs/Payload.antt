@@ -3,6 +3,7 @@
 use Rattle.std.specs.Prelude.{ℕ, ◌*◌, List, drop}
 use Rattle.std.specs.List.{flat_map}
 use Rattle.byteorder.specs.Endian.{big_bytes, big_number}
+use Rattle.share_types.specs.declared.bits.Bits.{Bits}
 use Rattle.message_demux.specs.Slots.{vector_bytes}
 
 -- the bytes of words
@@ -16,6 +17,10 @@ word_in payload i = big_number 8 (drop (8 * i) payload)
 -- the bytes of the numbers of vectors of a width
 abbrev pub vectors_bytes : ℕ → List ℕ → List ℕ
 vectors_bytes width numbers = flat_map (big_bytes (vector_bytes width)) numbers
+
+-- the bytes of a vector, in its own width
+abbrev pub bytes_of_vector : Bits → List ℕ
+bytes_of_vector vector = big_bytes (vector_bytes vector.width) vector.word
 
 -- the number of the vector at a place of a payload of vectors of a width
 abbrev pub vector_in : ℕ → List ℕ → ℕ → ℕ

@@ -2,5 +2,7 @@
 #![tactic(auto)]
 
 mod laws;
+mod payload;
 
-pub use laws::one_joint_run;
+pub use laws::{one_joint_run, payloads_read_back};
+pub use payload::{vector_in, vector_payload, word_in, word_payload};
