@@ -1,0 +1,3 @@
+pub mod Causal
+pub mod Unique
+pub mod Bytes

@@ -1,0 +1,4 @@
+pub mod Payload
+pub mod Party
+pub mod Joint
+pub mod Laws
