@@ -13,3 +13,4 @@ pub mod EvalLemmas
 pub mod InputLemmas
 pub mod WidthLemmas
 pub mod TableLemmas
+pub mod WriteLemmas
