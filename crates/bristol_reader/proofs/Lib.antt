@@ -14,3 +14,5 @@ pub mod InputLemmas
 pub mod WidthLemmas
 pub mod TableLemmas
 pub mod WriteLemmas
+pub mod DecimalLemmas
+pub mod ReadsBackLemmas

@@ -1,5 +1,6 @@
 ghost use Rattle.std.specs.Prelude.{◌≡◌, ◌<◌, ◌++◌, length, slice_get, OnOk, IfOk, IfSome};
 ghost use Rattle.std.specs.Fmt.{decimal};
+ghost use Rattle.bristol_reader.specs.Grammar.{Reads};
 ghost use Rattle.bristol_reader.specs.Stored.{a_gate};
 ghost use Rattle.bristol_reader.specs.Written.{line_of, sizes_words, widths_words, gate_words, spaced, canonical};
 
@@ -12,7 +13,8 @@ use std::alloc::Global;
 /// The canonical text of a circuit: single spaces, decimal numbers, no blank line, and a line end behind every line. It
 /// reads as that circuit again. It may be longer than the text that `read_bristol` takes.
 pub fn write_bristol(alloc: Global, circuit: &Bristol) -> Result<Vec<u8>, NoMemory>
-    ensures { IfOk result (λ text. text.items ≡ canonical circuit.now) }
+    ensures written { IfOk result (λ text. text.items ≡ canonical circuit.now) }
+    ensures reads_back { IfOk result (λ text. Reads text.items circuit.now) }
 {
     let mut out = Vec::new(alloc);
     push_sizes(alloc, &mut out, circuit)?;

@@ -1,5 +1,6 @@
 use Rattle.std.proofs.Common.{◌≡◌, ◌<◌, length, arith}
 use Rattle.bristol_reader.proofs.WriteLemmas.{headers_written, written_more, written_all}
+use Rattle.bristol_reader.proofs.ReadsBackLemmas.{text_reads_back}
 use Rattle.bristol_reader.proofs.write.write_bristol.Goals as goal
 
 pub loop-at-init : goal.loop-at-init
@@ -16,4 +17,8 @@ pub returns : goal.returns
 returns c =
     let count = c.len-at-end.ensures.value in
     let past = c.loop-at-test.false in
-    written_all c.args.circuit.now c.loop-at.out.items c.loop-at.at (omega arith) c.loop-at.invariant
+    let is = written_all c.args.circuit.now c.loop-at.out.items c.loop-at.at (omega arith) c.loop-at.invariant in
+    record {
+      written = is;
+      reads_back = text_reads_back c.args.circuit.now c.loop-at.out.items c.len-at-end.ensures.circuit is;
+    }
