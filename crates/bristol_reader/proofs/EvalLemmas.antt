@@ -88,7 +88,7 @@ earlier_differs outs i k apart before within same =
     let among : is_among (take k outs) (get_or outs k 0) ≡ true = list_any_at (λ x. x == get_or outs k 0) (take k outs) i 0 (omega arith) (eq-eqb _ _ here) in
     false≢true (sym (ap are_apart (cut_at outs k within) ∙ not_apart (take k outs) (get_or outs k 0) (drop (k + 1) outs) among) ∙ apart)
 
-not_true : (b : Bool) → not b ≡ true → b ≡ false
+pub not_true : (b : Bool) → not b ≡ true → b ≡ false
 not_true true h = sym h
 not_true false h = refl
 

@@ -13,3 +13,6 @@ pub mod EvalLemmas
 pub mod InputLemmas
 pub mod WidthLemmas
 pub mod TableLemmas
+pub mod WriteLemmas
+pub mod DecimalLemmas
+pub mod ReadsBackLemmas

@@ -8,7 +8,7 @@ use Rattle.std.proofs.lemmas.List.Folds.{list_all-append, list_any-append, list_
 use Rattle.bristol_reader.specs.Circuit.{is_among, are_apart}
 use Rattle.bristol_reader.specs.Marks.{is_marked, are_new_to, IsMarked}
 
-same_sym : (x w : ℕ) → (x == w) ≡ (w == x)
+pub same_sym : (x w : ℕ) → (x == w) ≡ (w == x)
 same_sym x w = elim (cases_eq x w) [
   | inl e ↦ eq-eqb x w e ∙ sym (eq-eqb w x (sym e))
   | inr ne ↦ ne_eqb x w ne ∙ sym (ne_eqb w x (λ e. ne (sym e)))

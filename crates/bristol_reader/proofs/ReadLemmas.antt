@@ -34,7 +34,7 @@ read_start text here left cut =
     subst (λ (n : ℕ). IsReadTo Known Circuit BristolCause (circuits (reader text)) text (known n Start) 0 (here ∷ left)) count some
 
 -- what is known behind a line, by whether it is the last
-behind_known : (n : ℕ) (stage : Stage) (line : Text) (last : Bool) (r : Result Stage BristolCause) → (n == 1) ≡ last → behind_line last stage line ≡ r → behind (known n stage) line ≡ (r >>= (λ s. Ok (known (n - 1) s)))
+pub behind_known : (n : ℕ) (stage : Stage) (line : Text) (last : Bool) (r : Result Stage BristolCause) → (n == 1) ≡ last → behind_line last stage line ≡ r → behind (known n stage) line ≡ (r >>= (λ s. Ok (known (n - 1) s)))
 unfolding behind
 behind_known n stage line last r e h = ap (λ (b : Bool). behind_line b stage line >>= (λ s. Ok (known (n - 1) s))) e ∙ ap (λ (x : Result Stage BristolCause). x >>= (λ s. Ok (known (n - 1) s))) h
 

@@ -9,3 +9,4 @@ pub mod Stored
 pub mod Table
 pub mod Eval
 pub mod Cut
+pub mod Written

@@ -16,6 +16,7 @@ mod stage;
 mod tables;
 mod telling;
 mod widths;
+mod write;
 
 pub use cause::{BristolCause, BristolError};
 pub use circuit::Bristol;
@@ -23,3 +24,4 @@ pub use evaluate::evaluates_once;
 pub use kind::BristolKind;
 pub use read::{each_text_reads_or_faults, read_bristol};
 pub use telling::plain_bristol;
+pub use write::write_bristol;

@@ -50,6 +50,13 @@ impl Widths {
         self.list.len() as u32
     }
 
+    /// The widths in order.
+    pub fn as_slice(&self) -> &[u32]
+        ensures { result.now ≡ self.entry.now }
+    {
+        self.list.as_slice()
+    }
+
     /// How many wires the values have together.
     pub fn total(&self) -> u32
         ensures total { result ≡ sum self.now }

@@ -80,7 +80,7 @@ keep_some (w ∷ ws) h =
     (filter (λ part. not (is_empty part)) ws)) some.0
     ∙ ap (λ (more : List Text). w ∷ more) (keep_some ws tests.1)
 
-words_joined : (w : Text) (ws : List Text) → list_all is_plain_word (w ∷ ws) ≡ true →
+pub words_joined : (w : Text) (ws : List Text) → list_all is_plain_word (w ∷ ws) ≡ true →
     words (join_with_byte 32 (w ∷ ws)) ≡ w ∷ ws
 words_joined w ws h =
     ap (filter (λ part. not (is_empty part)))
