@@ -9,7 +9,7 @@ use Rattle.std.proofs.lemmas.Bool.{and_from, and_parts, lt-ltb, ltb-true}
 use Rattle.std.proofs.lemmas.Bool.Decides.{nat_tests}
 use Rattle.std.proofs.lemmas.Fmt.{decimal_is_IsNumeral}
 use Rattle.bristol_reader.specs.Line.{decimal_of, numbers_of}
-use Rattle.text_lines.proofs.JoinedLemmas.{is_plain, is_plain_word}
+use Rattle.bristol_reader.proofs.JoinedLemmas.{is_plain, is_plain_word}
 use Rattle.text_lines.specs.Text.{Text, is_empty}
 use Rattle.text_lines.specs.Word.{are_digits}
 

@@ -32,7 +32,7 @@ use Rattle.bristol_reader.proofs.ReadLemmas.{known, behind_known}
 use Rattle.text_lines.specs.Chain.{◌>>=◌, or_cause, unless}
 use Rattle.text_lines.specs.LineReader.{Lead}
 use Rattle.text_lines.specs.Text.{Text, lines}
-use Rattle.text_lines.proofs.JoinedLemmas.{is_plain_word, is_inner, ended as ended_lines, joined_inner, joined_allowed, words_joined, lines_ended}
+use Rattle.bristol_reader.proofs.JoinedLemmas.{is_plain_word, is_inner, ended as ended_lines, joined_inner, joined_allowed, words_joined, lines_ended}
 
 -- ---- numbers of a circuit
 

@@ -14,6 +14,7 @@ pub mod TableLemmas
 pub mod WidthLemmas
 pub mod EvalLemmas
 pub mod WriteLemmas
+pub mod JoinedLemmas
 pub mod SlotLemmas
 pub mod AgainLemmas
 pub mod SaidAgainLemmas

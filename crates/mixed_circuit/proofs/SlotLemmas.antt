@@ -19,7 +19,7 @@ use Rattle.mixed_circuit.specs.Language.{operations, word_of}
 use Rattle.mixed_circuit.specs.Line.{Parts, letter_of, is_letter_of, number_within, with_word}
 use Rattle.mixed_circuit.specs.Stated.{IsSomeName}
 use Rattle.mixed_circuit.specs.Written.{letter_word, told_word}
-use Rattle.text_lines.proofs.JoinedLemmas.{is_plain, is_plain_word, implied_all}
+use Rattle.mixed_circuit.proofs.JoinedLemmas.{is_plain, is_plain_word, implied_all}
 use Rattle.text_lines.proofs.WordLemmas.{both, both_true}
 use Rattle.text_lines.specs.Text.{Text, is_empty}
 use Rattle.text_lines.specs.Word.{is_name, is_letter, are_digits, begins_hexadecimal, number_in, number_of}

@@ -3,4 +3,3 @@ pub mod WordLemmas
 pub mod LineLemmas
 pub mod ReaderLemmas
 pub mod ChainLemmas
-pub mod JoinedLemmas
