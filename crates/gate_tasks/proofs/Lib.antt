@@ -1,3 +1,6 @@
 pub mod Causal
 pub mod Unique
 pub mod Bytes
+pub mod Sums
+pub mod Grown
+pub mod Words

@@ -1,4 +1,5 @@
 pub mod Payload
 pub mod Party
 pub mod Joint
+pub mod Honest
 pub mod Laws

@@ -1,4 +1,4 @@
-ghost use Rattle.gate_tasks.specs.Laws.{OneJointRun, PayloadsReadBack};
+ghost use Rattle.gate_tasks.specs.Laws.{EveryWordRecombines, OneJointRun, PayloadsReadBack};
 
 /// What is read at each place of a payload is what was written there.
 pub fn payloads_read_back()
@@ -8,4 +8,10 @@ pub fn payloads_read_back()
 /// There is exactly one joint run for each plan and each list of own data, one for each party.
 pub fn one_joint_run()
     ensures { OneJointRun }
+{}
+
+/// In a joint run with honest dealer's parts, the parties' values of each gate over words recombine to the number that
+/// the plan computes there in plain.
+pub fn every_word_recombines()
+    ensures { EveryWordRecombines }
 {}
