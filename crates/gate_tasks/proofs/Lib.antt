@@ -3,4 +3,6 @@ pub mod Unique
 pub mod Bytes
 pub mod Sums
 pub mod Grown
-pub mod Words
+pub mod Recombining
+pub mod Xors
+pub mod Triples

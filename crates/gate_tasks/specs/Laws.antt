@@ -1,7 +1,7 @@
 -- The laws of a run.
 use Rattle.std.specs.Prelude.{ℕ, ◌≡◌, ◌<◌, ◌%◌, ◌^◌, List, Some, slice_get, length}
 use Rattle.share_types.specs.declared.needs.Needs.{Needs}
-use Rattle.gate_plan.specs.Gate.{Gate, Word, takes}
+use Rattle.gate_plan.specs.Gate.{Gate}
 use Rattle.gate_plan.specs.Plan.{Gates, IsPlan}
 use Rattle.gate_plan.specs.Plain.{plain_before}
 use Rattle.gate_tasks.specs.Payload.{word_bytes, word_in, vectors_bytes, vector_in}
@@ -22,12 +22,12 @@ OneJointRun =
     (plan : Gates) (owns : List Own) →
     (table : Payloads) × IsJoint plan owns table × ((other : Payloads) → IsJoint plan owns other → other ≡ table)
 
--- in a joint run with honest dealer's parts, the parties' values of each gate over words recombine to the number that the
--- plan computes there in plain
-abbrev pub EveryWordRecombines : Type 0
-EveryWordRecombines =
+-- in a joint run with honest dealer's parts, the parties' values of each gate recombine to the number that the plan
+-- computes there in plain
+abbrev pub EveryGateRecombines : Type 0
+EveryGateRecombines =
     (plan : Gates) (owns : List Own) (bases : Needs) (session : ℕ) (inputs : List ℕ) (table : Payloads) →
     IsPlan plan → AreHonest plan owns bases session → AreInputs plan owns inputs → IsJoint plan owns table →
-    (g : ℕ) (gate : Gate) (x : ℕ) → slice_get plan.gates g ≡ Some gate → takes gate.kind ≡ Word →
+    (g : ℕ) (gate : Gate) (x : ℕ) → slice_get plan.gates g ≡ Some gate →
     slice_get (plain_before plan.gates inputs (length plan.gates)) g ≡ Some x →
     Recombine gate plan.parties (λ p. party_value plan p (own_at owns p) (column table p) g) x

@@ -1,4 +1,4 @@
-ghost use Rattle.gate_tasks.specs.Laws.{EveryWordRecombines, OneJointRun, PayloadsReadBack};
+ghost use Rattle.gate_tasks.specs.Laws.{EveryGateRecombines, OneJointRun, PayloadsReadBack};
 
 /// What is read at each place of a payload is what was written there.
 pub fn payloads_read_back()
@@ -10,8 +10,8 @@ pub fn one_joint_run()
     ensures { OneJointRun }
 {}
 
-/// In a joint run with honest dealer's parts, the parties' values of each gate over words recombine to the number that
-/// the plan computes there in plain.
-pub fn every_word_recombines()
-    ensures { EveryWordRecombines }
+/// In a joint run with honest dealer's parts, the parties' values of each gate recombine to the number that the plan
+/// computes there in plain.
+pub fn every_gate_recombines()
+    ensures { EveryGateRecombines }
 {}
