@@ -4,14 +4,12 @@ use Rattle.std.specs.List.{list_all}
 use Rattle.std.proofs.lemmas.Bool.{and_parts, and_from, lt-ltb, ltb-true}
 use Rattle.std.proofs.lemmas.List.{take_at}
 use Rattle.mot_base.specs.Limits.{most_wires}
-use Rattle.bristol_reader.specs.declared.kind.BristolKind.{BristolKind}
 use Rattle.bristol_reader.specs.declared.cause.BristolCause.TheVariants.{SetTwice}
 use Rattle.bristol_reader.specs.Kinds.{is_arity, is_constant}
 use Rattle.bristol_reader.specs.Circuit.{Gate, Circuit, Progress, more_gates}
 use Rattle.bristol_reader.specs.Line.{input_bound, is_in_range, are_ins_set, are_outs_new, added}
 use Rattle.bristol_reader.specs.Marks.{are_new_to, IsMarked}
 use Rattle.bristol_reader.specs.Built.{FitsBehind, IsKept}
-use Rattle.text_lines.specs.Chain.{◌>>=◌, unless}
 use Rattle.bristol_reader.proofs.BuiltLemmas.{parts, kept_more, same_new}
 
 abbrev pub progress : ℕ → Circuit → Progress

@@ -1,22 +1,21 @@
 -- Lines say the same where their numbers are kept in 64 bits.
-use Rattle.std.proofs.Common.{ℕ, ◌≡◌, ◌<◌, ◌≤◌, ◌+◌, ◌-◌, ◌^◌, Bool, true, false, ◌&&◌, nat_lt, List, [], ◌∷◌, length, take, drop, map, Option, Some, None, Result, Ok, Err, refl, sym, ◌∙◌, ap, subst, cond, min, suc, not, arith, ◌⊎◌, inl, inr}
+use Rattle.std.proofs.Common.{ℕ, ◌≡◌, ◌<◌, ◌≤◌, ◌+◌, ◌-◌, Bool, true, false, ◌&&◌, nat_lt, List, [], ◌∷◌, length, take, drop, map, Option, Some, None, Result, Ok, Err, refl, sym, ◌∙◌, ap, subst, cond, suc, not, arith, ◌⊎◌, inl, inr}
 use Rattle.std.specs.Prelude.{◌==◌, nat_le, sum, option_map, option_and_then}
-use Rattle.std.specs.List.{list_all, sum_by}
-use Rattle.std.proofs.lemmas.Bool.{and_parts, and_from, and_left, and_right, lt-ltb, le-ltb, ltb-true, le-leb, lt-leb, leb-true, eq-eqb, eqb-true, ne_eqb, cases_lt, cases_Bool, cases_eq}
+use Rattle.std.specs.List.{list_all}
+use Rattle.std.proofs.lemmas.Bool.{and_parts, lt-ltb, le-ltb, ltb-true, le-leb, lt-leb, leb-true, eq-eqb, eqb-true, ne_eqb, cases_lt, cases_eq}
 use Rattle.std.proofs.lemmas.List.{length-map, length-take, take-map, drop-map}
 use Rattle.std.proofs.lemmas.List.Sums.{sum_by-cons}
-use Rattle.std.proofs.lemmas.List.Folds.{list_all-map}
 use Rattle.mot_base.specs.Limits.{most_statements, most_wires}
 use Rattle.bristol_reader.specs.declared.kind.BristolKind.{BristolKind}
 use Rattle.bristol_reader.specs.declared.cause.BristolCause.{BristolCause}
 use Rattle.bristol_reader.specs.declared.cause.BristolCause.TheVariants.{Header, TooMany, Counts, GateName, Arity, WireRange, UsedBeforeSet}
 use Rattle.bristol_reader.specs.Kinds.{is_arity, is_constant, kind_of}
 use Rattle.bristol_reader.specs.Circuit.{Gate, Circuit, Sizes, Progress}
-use Rattle.bristol_reader.specs.Line.{numbers_of, decimal_of, gate_stated, input_bound, is_in_range, are_ins_set, gate_used, added, adds_numbers, adds, last_word, front_words}
-use Rattle.bristol_reader.specs.Grammar.{sizes_of, widths_of, are_few, sizes_in, widths_in, sizes_said, widths_said}
+use Rattle.bristol_reader.specs.Line.{numbers_of, decimal_of, input_bound, is_in_range, are_ins_set, gate_used, added, adds_numbers, adds, last_word, front_words}
+use Rattle.bristol_reader.specs.Grammar.{are_few, sizes_in, widths_in, sizes_said, widths_said}
 use Rattle.bristol_reader.specs.declared.cause.LineError.{LineError}
 use Rattle.bristol_reader.specs.Gives.{Gives}
-use Rattle.bristol_reader.specs.Stored.{capped, capped_numbers, sizes_kept, widths_kept, adds_kept}
+use Rattle.bristol_reader.specs.Stored.{capped, sizes_kept, widths_kept, adds_kept}
 use Rattle.text_lines.specs.Text.{Text}
 use Rattle.text_lines.specs.Chain.{◌>>=◌, or_cause, unless}
 

@@ -1,6 +1,6 @@
 -- What is read behind the last line is whole.
-use Rattle.std.proofs.Common.{ℕ, ◌≡◌, Bool, true, false, not, ◌||◌, List, [], ◌∷◌, Ok, refl, sym, subst}
-use Rattle.std.specs.Prelude.{nat_le, nat_lt, length, ◌+◌, sum}
+use Rattle.std.proofs.Common.{ℕ, ◌≡◌, true, false, List, [], ◌∷◌, Ok, refl, subst}
+use Rattle.std.specs.Prelude.{nat_le, nat_lt, length, ◌+◌}
 use Rattle.std.specs.List.{list_all}
 use Rattle.bristol_reader.specs.declared.stage.Stage.{Stage}
 use Rattle.bristol_reader.specs.declared.stage.Stage.TheVariants.{Start, Sized, Entered, Body}
@@ -9,7 +9,7 @@ use Rattle.bristol_reader.specs.Circuit.{Sizes, Circuit, Progress, are_outputs_s
 use Rattle.bristol_reader.specs.Line.{numbers_of, adds}
 use Rattle.bristol_reader.specs.Grammar.{sizes_of, sizes_in, sizes_said, widths_of, widths_in, widths_said, ended, behind_blank, behind_words, behind_content, behind_line, circuit_of, IsDone}
 use Rattle.text_lines.specs.Text.{Text, is_allowed, words}
-use Rattle.text_lines.specs.Chain.{◌>>=◌, or_cause, unless}
+use Rattle.text_lines.specs.Chain.{or_cause, unless}
 use Rattle.text_lines.proofs.ChainLemmas.{ok_then, unless_true}
 
 ended_done : (p : Progress) (s : Stage) → ended true p ≡ Ok s → IsDone s

@@ -1,5 +1,5 @@
 -- Whether the output wires are set.
-use Rattle.std.proofs.Common.{ℕ, ◌≡◌, ◌<◌, ◌≤◌, ◌+◌, ◌-◌, Bool, true, false, List, get_or, sym, ◌∙◌, arith}
+use Rattle.std.proofs.Common.{ℕ, ◌≡◌, ◌<◌, ◌≤◌, ◌-◌, Bool, true, false, List, get_or, sym, ◌∙◌, arith}
 use Rattle.std.specs.Prelude.{sum}
 use Rattle.bristol_reader.specs.Circuit.{Circuit, is_set, are_outputs_set}
 use Rattle.bristol_reader.specs.Built.{IsKept}

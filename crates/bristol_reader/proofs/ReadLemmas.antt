@@ -8,7 +8,7 @@ use Rattle.bristol_reader.specs.declared.cause.BristolCause.{BristolCause}
 use Rattle.bristol_reader.specs.declared.cause.BristolError.{BristolError}
 use Rattle.bristol_reader.specs.declared.cause.BristolError.TheVariants as bristol_error
 use Rattle.bristol_reader.specs.Circuit.{Circuit}
-use Rattle.bristol_reader.specs.Grammar.{Known, circuits, behind_line, behind, circuit_of, read_last, whole, Reads, FirstFault, IsFirstFault}
+use Rattle.bristol_reader.specs.Grammar.{Known, circuits, behind_line, behind, circuit_of, read_last, Reads, FirstFault, IsFirstFault}
 use Rattle.bristol_reader.specs.Gives.{FailsAt, GivesAt}
 use Rattle.text_lines.specs.Text.{Text, lines}
 use Rattle.text_lines.specs.Chain.{◌>>=◌}

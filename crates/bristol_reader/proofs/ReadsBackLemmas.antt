@@ -1,9 +1,9 @@
 -- The canonical text of a circuit reads as that circuit.
-use Rattle.std.proofs.Common.{ℕ, ◌≡◌, ◌<◌, ◌≤◌, ◌+◌, ◌-◌, ◌*◌, ◌^◌, Bool, true, false, not, ◌&&◌, ◌||◌, nat_lt, List, [], ◌∷◌, ◌++◌, length, map, take, drop, get_or, suc, Option, Some, None, Result, Ok, Err, refl, sym, ◌∙◌, ap, subst, cond, arith, append_assoc, append-nil, ◌⊎◌, inl, inr}
-use Rattle.std.specs.Prelude.{◌==◌, nat_le, slice_get, sum, codes}
-use Rattle.std.specs.List.{list_all, list_any, join_with_byte, flat_map, IsDistinct, AllByRecursion}
+use Rattle.std.proofs.Common.{ℕ, ◌≡◌, ◌<◌, ◌≤◌, ◌+◌, ◌-◌, ◌*◌, ◌^◌, Bool, true, false, not, ◌||◌, nat_lt, List, [], ◌∷◌, ◌++◌, length, map, take, drop, suc, Some, None, Ok, refl, sym, ◌∙◌, ap, subst, cond, arith, append_assoc, append-nil, inl, inr}
+use Rattle.std.specs.Prelude.{◌==◌, nat_le, slice_get, sum}
+use Rattle.std.specs.List.{list_all, list_any, join_with_byte, IsDistinct, AllByRecursion}
 use Rattle.std.specs.Fmt.{decimal}
-use Rattle.std.proofs.lemmas.Bool.{and_from, and_parts, or_parts, or_cases, or_left, or_right, lt-ltb, ltb-true, le-leb, leb-true, eq-eqb, ne_eqb, eqb-true}
+use Rattle.std.proofs.lemmas.Bool.{and_from, and_parts, or_parts, or_cases, lt-ltb, ltb-true, le-leb, eq-eqb, ne_eqb, eqb-true}
 use Rattle.std.proofs.lemmas.List.{length-map, length-append, take_at, drop_at, length_push, get_or_push, nil_from_length}
 use Rattle.std.proofs.lemmas.List.Sums.{sum_by-cons}
 use lib.Dec.{eqb}
@@ -15,21 +15,19 @@ use Rattle.bristol_reader.specs.declared.kind.BristolKind.{BristolKind}
 use Rattle.bristol_reader.specs.declared.kind.BristolKind.TheVariants.{Xor, And, Inv, Eq, Eqw, Mand}
 use Rattle.bristol_reader.specs.declared.stage.Stage.{Stage}
 use Rattle.bristol_reader.specs.declared.stage.Stage.TheVariants.{Start, Sized, Entered, Body}
-use Rattle.bristol_reader.specs.declared.cause.BristolCause.{BristolCause}
 use Rattle.bristol_reader.specs.Kinds.{name_of, kind_of, is_arity, is_constant}
-use Rattle.bristol_reader.specs.Circuit.{Gate, Circuit, Sizes, Heading, Progress, no_gates, more_gates, is_among, are_apart, are_outputs_set}
-use Rattle.bristol_reader.specs.Line.{numbers_of, gate_stated, input_bound, is_in_range, are_ins_set, are_outs_new, gate_used, added, adds_numbers, last_word, front_words, adds}
-use Rattle.bristol_reader.specs.Built.{are_positive, FitsBehind, first_gates, IsBuilt, IsCircuit}
+use Rattle.bristol_reader.specs.Circuit.{Gate, Circuit, Heading, Progress, no_gates, more_gates, is_among, are_apart, are_outputs_set}
+use Rattle.bristol_reader.specs.Line.{numbers_of, gate_stated, input_bound, gate_used, added, adds_numbers, last_word, front_words, adds}
+use Rattle.bristol_reader.specs.Built.{are_positive, FitsBehind, IsBuilt, IsCircuit}
 use Rattle.bristol_reader.specs.Stored.{a_gate}
-use Rattle.bristol_reader.specs.Grammar.{Known, circuits, sizes_in, sizes_said, widths_in, widths_said, ended, behind_words, behind_line, behind, Reads}
-use Rattle.bristol_reader.specs.Written.{line_of, sizes_words, widths_words, gate_words, all_words, canonical}
-use Rattle.bristol_reader.proofs.DecimalLemmas.{decimal_plain, decimal_read, are_kept, decimals_plain, decimals_read}
+use Rattle.bristol_reader.specs.Grammar.{circuits, sizes_in, sizes_said, widths_in, widths_said, ended, behind_words, behind_line, behind, Reads}
+use Rattle.bristol_reader.specs.Written.{sizes_words, widths_words, gate_words, all_words, canonical}
+use Rattle.bristol_reader.proofs.DecimalLemmas.{are_kept, decimals_plain, decimals_read}
 use Rattle.bristol_reader.proofs.BuiltLemmas.{parts}
 use Rattle.bristol_reader.proofs.MarkLemmas.{same_sym}
 use Rattle.bristol_reader.proofs.EvalLemmas.{not_true}
 use Rattle.bristol_reader.proofs.WidthLemmas.{few_values}
 use Rattle.bristol_reader.proofs.ReadLemmas.{known, behind_known}
-use Rattle.text_lines.specs.Chain.{◌>>=◌, or_cause, unless}
 use Rattle.text_lines.specs.LineReader.{Lead}
 use Rattle.text_lines.specs.Text.{Text, lines}
 use Rattle.bristol_reader.proofs.JoinedLemmas.{is_plain_word, is_inner, ended as ended_lines, joined_inner, joined_allowed, words_joined, lines_ended}

@@ -1,5 +1,5 @@
 -- What is known of a gate that was read.
-use Rattle.std.proofs.Common.{ℕ, ◌≡◌, ◌<◌, ◌≤◌, ◌+◌, ◌-◌, Bool, true, ◌&&◌, List, [], ◌∷◌, length, take, drop, Some, None, Ok, refl, sym, ◌∙◌, ap, subst, cond, arith}
+use Rattle.std.proofs.Common.{ℕ, ◌≡◌, ◌+◌, true, ◌&&◌, List, [], ◌∷◌, length, take, drop, Some, Ok, ◌∙◌, ap, subst, arith}
 use Rattle.std.specs.Prelude.{◌==◌}
 use Rattle.std.proofs.lemmas.Bool.{and_parts, eqb-true}
 use Rattle.std.proofs.lemmas.List.{length-take-le, length-drop}
@@ -9,7 +9,7 @@ use Rattle.bristol_reader.specs.declared.cause.BristolCause.TheVariants.{Arity, 
 use Rattle.bristol_reader.specs.Kinds.{is_arity}
 use Rattle.bristol_reader.specs.Circuit.{Gate, Circuit}
 use Rattle.bristol_reader.specs.Line.{gate_stated, is_in_range, are_ins_set, gate_used}
-use Rattle.text_lines.specs.Chain.{◌>>=◌, or_cause, unless}
+use Rattle.text_lines.specs.Chain.{or_cause, unless}
 use Rattle.text_lines.proofs.ChainLemmas.{ok_then, or_some, unless_true}
 
 pub stated_arity : (kind : BristolKind) (ns : List ℕ) (g : Gate) → gate_stated kind ns ≡ Some g → is_arity g.kind (length g.ins) (length g.outs) ≡ true

@@ -1,5 +1,5 @@
 -- The canonical text of a circuit, word by word and line by line.
-use Rattle.std.proofs.Common.{ℕ, ◌≡◌, ◌<◌, ◌≤◌, ◌+◌, List, [], ◌∷◌, ◌++◌, length, map, take, Some, None, Option, Result, Ok, Err, refl, sym, ◌∙◌, ap, subst, arith, append_assoc, append-nil}
+use Rattle.std.proofs.Common.{ℕ, ◌≡◌, ◌<◌, ◌≤◌, ◌+◌, List, [], ◌∷◌, ◌++◌, length, map, take, Some, None, Option, Result, Ok, Err, refl, sym, ◌∙◌, ap, subst, append_assoc, append-nil}
 use Rattle.std.specs.Prelude.{OnOk, slice_get, option_map, IfSome}
 use Rattle.std.specs.List.{join_with_byte, flat_map}
 use Rattle.std.specs.Fmt.{decimal}
@@ -11,7 +11,7 @@ use Rattle.bristol_reader.specs.declared.kind.BristolKind.TheVariants.{Xor}
 use Rattle.bristol_reader.specs.Kinds.{name_of}
 use Rattle.bristol_reader.specs.Circuit.{Gate, Circuit}
 use Rattle.bristol_reader.specs.Stored.{a_gate}
-use Rattle.bristol_reader.specs.Written.{line_of, sizes_words, widths_words, gate_words, all_words, canonical, spaced}
+use Rattle.bristol_reader.specs.Written.{line_of, sizes_words, widths_words, gate_words, canonical, spaced}
 use Rattle.bristol_reader.proofs.EvalLemmas.{gate_parts}
 use Rattle.text_lines.specs.Text.{Text}
 

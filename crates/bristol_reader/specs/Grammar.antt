@@ -1,7 +1,7 @@
 -- The language of circuits in Bristol Fashion: which texts read as a circuit, and which line of any other text shows the
 -- first fault. Some causes stand at the last line, and take part in the order of the causes of that line, so the reader
 -- of a text knows how many lines it has.
-use Rattle.std.specs.Prelude.{ℕ, ◌≡◌, ◌+◌, ◌-◌, ◌==◌, Bool, true, false, not, ◌&&◌, ◌||◌, nat_lt, nat_le, List, [], ◌∷◌, ◌++◌, length, sum, Option, Some, None, Result, Ok, Err, if◌then◌else◌}
+use Rattle.std.specs.Prelude.{ℕ, ◌≡◌, ◌+◌, ◌-◌, ◌==◌, Bool, true, false, not, ◌&&◌, ◌||◌, nat_lt, nat_le, List, [], ◌∷◌, length, sum, Option, Some, None, Result, Ok, Err, if◌then◌else◌}
 use Rattle.std.specs.List.{list_all}
 use Rattle.mot_base.specs.Limits.{most_statements, most_wires}
 use Rattle.bristol_reader.specs.declared.cause.BristolCause.{BristolCause}
@@ -10,7 +10,7 @@ use Rattle.bristol_reader.specs.declared.cause.BristolError.{BristolError}
 use Rattle.bristol_reader.specs.declared.cause.BristolError.TheVariants.{At, NoMemory}
 use Rattle.bristol_reader.specs.declared.stage.Stage.{Stage}
 use Rattle.bristol_reader.specs.declared.stage.Stage.TheVariants.{Start, Sized, Entered, Body}
-use Rattle.bristol_reader.specs.Circuit.{Circuit, Sizes, Heading, Progress, no_gates, are_outputs_set}
+use Rattle.bristol_reader.specs.Circuit.{Circuit, Sizes, Progress, no_gates, are_outputs_set}
 use Rattle.bristol_reader.specs.Line.{numbers_of, adds}
 use Rattle.text_lines.specs.Chain.{or_cause, unless, ◌>>=◌}
 use Rattle.text_lines.specs.Text.{Text, is_allowed, words, lines}

@@ -1,5 +1,5 @@
 -- Gates and numbers as the code keeps them.
-use Rattle.std.specs.Prelude.{ℕ, ◌≡◌, ◌+◌, ◌-◌, ◌^◌, ◌≤◌, Bool, not, ◌||◌, List, length, take, drop, map, slice_get, Option, Some, Result, option_map, min}
+use Rattle.std.specs.Prelude.{ℕ, ◌≡◌, ◌+◌, ◌-◌, ◌^◌, ◌≤◌, Bool, not, ◌||◌, List, take, drop, map, slice_get, Option, Some, Result, option_map, min}
 use Rattle.std.specs.List.{list_all}
 use Rattle.bristol_reader.specs.declared.gates.Placed.{Placed}
 use Rattle.bristol_reader.specs.declared.line.Stated.{Stated}

@@ -2,7 +2,7 @@
 ghost use Rattle.std.specs.Prelude.{◌≤◌, length};
 ghost use Rattle.mot_base.specs.Limits.{most_file_bytes};
 
-use bristol_reader::{Bristol, plain_bristol, read_bristol};
+use bristol_reader::{Bristol, plain_bristol, read_bristol, write_bristol};
 use circuit_values::read_values;
 use mot_base::MAX_FILE_LENGTH;
 use std::alloc::Global;
@@ -211,5 +211,17 @@ fn tables_tell_a_circuit(rt: HostRuntime) -> Result<(), Fail> {
     assert!(rt; KINDS.len() <= MAX_FILE_LENGTH);
     let circuit = read_bristol(rt.alloc(), KINDS)?;
     assert_eq!(rt; tables_of(rt.alloc(), &circuit)?.as_str(), TABLES);
+    Ok(())
+}
+
+/// A text of `KINDS` with other blanks and with zeros in front.
+static SPREAD: &[u8] =
+    b"\n6\t011\r\n\n 3 1 2  1\n2 1 03\n\n2 1 0 1 4 XOR\n2 1 4 2 5 AND\n01 1 5 6 INV\n1 1 1 7 EQ\r\n1 1 0 8 EQW\n4 2 0 1 2 3 9 10 MAND";
+
+#[test]
+fn a_circuit_is_written_canonically(rt: HostRuntime) -> Result<(), Fail> {
+    assert!(rt; SPREAD.len() <= MAX_FILE_LENGTH);
+    let circuit = read_bristol(rt.alloc(), SPREAD)?;
+    assert_eq!(rt; write_bristol(rt.alloc(), &circuit)?.as_slice(), KINDS);
     Ok(())
 }

@@ -1,5 +1,4 @@
-use Rattle.std.proofs.Common.{◌<◌, length, arith}
-use Rattle.std.proofs.lemmas.Bool.{and_parts}
+use Rattle.std.proofs.Common.{length, arith}
 use Rattle.bristol_reader.specs.Stored.{a_gate}
 use Rattle.bristol_reader.proofs.EvalLemmas.{out_below, set_more, set_met}
 use Rattle.bristol_reader.proofs.evaluate.set_outs.Goals as goal

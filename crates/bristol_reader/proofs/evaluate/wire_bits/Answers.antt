@@ -1,6 +1,5 @@
-use Rattle.std.proofs.Common.{◌≡◌, ℕ, Bool, ◌∙◌, length, sym, ap, arith}
+use Rattle.std.proofs.Common.{◌≡◌, ℕ, ◌∙◌, length, ap, arith}
 use Rattle.std.proofs.lemmas.Bool.{and_parts}
-use Rattle.std.specs.Prelude.{true}
 use Rattle.bristol_reader.specs.Line.{is_in_range}
 use Rattle.bristol_reader.specs.Stored.{a_gate}
 use Rattle.bristol_reader.proofs.EvalLemmas.{evaluated_none, evaluated_all, gate_fits, gate_step, reads_none}

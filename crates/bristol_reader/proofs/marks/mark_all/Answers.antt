@@ -1,4 +1,4 @@
-use Rattle.std.proofs.Common.{◌<◌, length, slice_index_or, refl, sym}
+use Rattle.std.proofs.Common.{length, refl, sym}
 use Rattle.bristol_reader.proofs.BoolLemmas.{below_at}
 use Rattle.bristol_reader.proofs.MarkLemmas.{mark_more, mark_fails}
 use Rattle.bristol_reader.proofs.marks.mark_all.Goals as goal

@@ -1,4 +1,4 @@
-use Rattle.std.proofs.Common.{◌≡◌, List, ℕ, ◌-◌, length, ap, arith}
+use Rattle.std.proofs.Common.{List, ℕ, ◌-◌, length, ap, arith}
 use Rattle.std.specs.Prelude.{sum}
 use Rattle.bristol_reader.proofs.TableLemmas.{told_all}
 use Rattle.bristol_reader.proofs.telling.told.Goals as goal

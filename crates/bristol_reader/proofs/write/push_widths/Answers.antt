@@ -1,4 +1,4 @@
-use Rattle.std.proofs.Common.{◌≡◌, ◌++◌, ◌∙◌, List, ℕ, ap}
+use Rattle.std.proofs.Common.{◌++◌, ◌∙◌, List, ℕ, ap}
 use Rattle.bristol_reader.specs.Written.{spaced}
 use Rattle.bristol_reader.proofs.WriteLemmas.{on_ok, widths_line}
 use Rattle.bristol_reader.proofs.write.push_widths.Goals as goal

@@ -1,4 +1,4 @@
-use Rattle.std.proofs.Common.{◌≡◌, ◌<◌, length, arith}
+use Rattle.std.proofs.Common.{◌<◌, length, arith}
 use Rattle.bristol_reader.proofs.WriteLemmas.{headers_written, written_more, written_all}
 use Rattle.bristol_reader.proofs.ReadsBackLemmas.{text_reads_back}
 use Rattle.bristol_reader.proofs.write.write_bristol.Goals as goal

@@ -1,4 +1,4 @@
-use Rattle.std.proofs.Common.{◌∙◌, ◌≡◌, ◌≤◌, ◌-◌, false, get_or, sym, ap, arith}
+use Rattle.std.proofs.Common.{◌∙◌, ◌≡◌, false, get_or, sym, ap, arith}
 use Rattle.std.proofs.lemmas.List.{get_or_read}
 use Rattle.bristol_reader.specs.Circuit.{Circuit, Progress, are_outputs_set}
 use Rattle.bristol_reader.proofs.OutputLemmas.{outputs_set, output_unset}

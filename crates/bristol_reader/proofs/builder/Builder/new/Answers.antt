@@ -1,4 +1,4 @@
-use Rattle.std.proofs.Common.{◌∙◌, ◌≡◌, ◌≤◌, sym, ap, arith}
+use Rattle.std.proofs.Common.{ap, arith}
 use Rattle.bristol_reader.specs.Circuit.{Heading, Sizes}
 use Rattle.bristol_reader.proofs.BuiltLemmas.{kept_none}
 use Rattle.bristol_reader.proofs.builder.Builder.new.Goals as goal

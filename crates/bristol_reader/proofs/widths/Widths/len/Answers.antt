@@ -1,4 +1,4 @@
-use Rattle.std.proofs.Common.{◌≤◌, length, sym, subst, arith}
+use Rattle.std.proofs.Common.{◌≤◌, subst, arith}
 use Rattle.std.specs.Prelude.{List, ℕ, sum}
 use Rattle.bristol_reader.proofs.WidthLemmas.{few_values}
 use Rattle.bristol_reader.proofs.widths.Widths.len.Goals as goal
