@@ -182,10 +182,7 @@ fn parts_are_stored_in_their_order(rt: HostRuntime) -> Result<(), Fail> {
             assert_eq!(rt; end.written(), deal.printed.as_bytes(), "{:?}", deal.words);
             assert_eq!(rt; end.status, deal.status, "{:?}", deal.words);
             for (name, content) in deal.held {
-                let held = match end.held(name) {
-                    Some(bytes) => Some(hex::encode(rt.alloc(), bytes)?),
-                    None => None,
-                };
+                let held = end.held(rt.alloc(), name)?;
                 assert_eq!(rt; held.as_deref(), *content, "{name} of {:?}", deal.words);
             }
         }

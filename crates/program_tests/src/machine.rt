@@ -34,9 +34,12 @@ impl End {
         self.out.bytes()
     }
 
-    /// What a name holds.
-    pub(crate) fn held(&self, name: &str) -> Option<&[u8]> {
-        self.files.get(name)
+    /// What a name holds, in hexadecimal digits.
+    pub(crate) fn held(&self, alloc: Global, name: &str) -> Result<Option<String>, Fail> {
+        match self.files.get(name) {
+            Some(bytes) => Ok(Some(hex::encode(alloc, bytes)?)),
+            None => Ok(None),
+        }
     }
 }
 
