@@ -1,7 +1,7 @@
 use anyhow::Error;
 use dealer_files::{DealerPart, dealer_len, read_dealer, write_dealer};
 use dealer_maker::deal;
-use mot_base::{MAX_FILE_LENGTH, NoMemory, Seed};
+use mot_base::{MAX_FILE_LENGTH, NoMemory, Seed, TapeReader};
 use share_types::Needs;
 use std::alloc::Global;
 
@@ -20,6 +20,18 @@ pub(crate) fn deal_to_three(alloc: Global, size: u32) -> Result<u64, NoMemory> {
         sum = sum.wrapping_add(written(alloc, part)?);
     }
     Ok(sum)
+}
+
+/// What `deal_to_three` cannot do without: draws as many words, and writes each in 4 bytes, which are about as many as
+/// all files have.
+pub(crate) fn draw_and_write(alloc: Global, size: u32) -> Result<u64, NoMemory> {
+    let count = 3 * u64::from(size) + 81 * u64::from(size / 10);
+    let mut tape = TapeReader::new(&Seed([0; 32]), 0);
+    let mut bytes = Vec::new(alloc);
+    for _at in 0..count {
+        bytes.extend_from_slice(&tape.word().to_le_bytes())?;
+    }
+    Ok(bytes.len() as u64)
 }
 
 /// The length of the part's file, which is written where it is within the limit.

@@ -19,7 +19,7 @@ use std::env;
 use std::time::Instant;
 
 /// What can be done, by name. A work is given how many times it is done, and gives a number that shows it.
-static WORKS: [(&str, Work); 13] = [
+static WORKS: [(&str, Work); 14] = [
     ("words", Work::Words),
     ("shares-of-two", Work::SharesOfTwo),
     ("shares-of-eight", Work::SharesOfEight),
@@ -30,6 +30,7 @@ static WORKS: [(&str, Work); 13] = [
     ("frames-by-1448", Work::FramesBy1448),
     ("frames-by-65536", Work::FramesBy65536),
     ("deal", Work::Deal),
+    ("deal-floor", Work::DealFloor),
     ("read-keys", Work::ReadKeys),
     ("read-circuit", Work::ReadCircuit),
     ("lower-circuit", Work::LowerCircuit),
@@ -57,6 +58,8 @@ enum Work {
     FramesBy65536,
     /// So many bit triples and three tenths as many key bits are dealt to three parties and written.
     Deal,
+    /// As many words are drawn as that draws, and written.
+    DealFloor,
     /// A dealer file of so many key bits of two parties is read.
     ReadKeys,
     /// A circuit of so many statements is read.
@@ -79,6 +82,7 @@ impl Work {
             Work::FramesBy1448 => Ok(messages::read_in_pieces(alloc, size, 1448)?),
             Work::FramesBy65536 => Ok(messages::read_in_pieces(alloc, size, 65_536)?),
             Work::Deal => Ok(dealer::deal_to_three(alloc, size)?),
+            Work::DealFloor => Ok(dealer::draw_and_write(alloc, size)?),
             Work::ReadKeys => Ok(dealer::read_keys(alloc, size)?),
             Work::ReadCircuit => Ok(plans::read(alloc, size)?),
             Work::LowerCircuit => Ok(plans::lower(alloc, size)?),

@@ -181,6 +181,7 @@ fn vectors_have_these_gates_and_messages(rt: HostRuntime) -> Result<(), Fail> {
 fn stages_wait_for_the_rounds_in_which_a_party_receives(rt: HostRuntime) -> Result<(), Fail> {
     assert!(rt; VECTORS.len() <= MAX_FILE_LENGTH);
     let plan = plan_of(rt.alloc(), VECTORS)?;
+    assert!(rt; plan.gates() == 10);
     // The owner of an input hears nothing, and who is not told an output hears nothing of it.
     assert_eq!(rt; plan.stages(Party(2), 0), 1);
     assert_eq!(rt; plan.stages(Party(0), 0), 2);
