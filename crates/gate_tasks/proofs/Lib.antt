@@ -6,3 +6,4 @@ pub mod Grown
 pub mod Recombining
 pub mod Xors
 pub mod Triples
+pub mod Lengths

@@ -1,9 +1,11 @@
 -- The laws of a run.
-use Rattle.std.specs.Prelude.{ℕ, ◌≡◌, ◌<◌, ◌%◌, ◌^◌, List, Some, slice_get, length}
+use Rattle.std.specs.Prelude.{ℕ, ◌≡◌, ◌<◌, ◌%◌, ◌^◌, List, Option, Some, None, slice_get, length}
 use Rattle.share_types.specs.declared.needs.Needs.{Needs}
 use Rattle.gate_plan.specs.Gate.{Gate}
 use Rattle.gate_plan.specs.Plan.{Gates, IsPlan}
 use Rattle.gate_plan.specs.Plain.{plain_before}
+use Rattle.gate_plan.specs.declared.message.Message.{Message}
+use Rattle.gate_plan.specs.Messages.{message}
 use Rattle.gate_tasks.specs.Payload.{word_bytes, word_in, vectors_bytes, vector_in}
 use Rattle.gate_tasks.specs.Party.{Own, party_value}
 use Rattle.gate_tasks.specs.Honest.{own_at, AreHonest, AreInputs, Recombine}
@@ -31,3 +33,15 @@ EveryGateRecombines =
     (g : ℕ) (gate : Gate) (x : ℕ) → slice_get plan.gates g ≡ Some gate →
     slice_get (plain_before plan.gates inputs (length plan.gates)) g ≡ Some x →
     Recombine gate plan.parties (λ p. party_value plan p (own_at owns p) (column table p) g) x
+
+-- the length of a message, and 0 of none
+abbrev pub length_of : Option Message → ℕ
+length_of None = 0
+length_of (Some m) = m.len
+
+-- in a joint run each payload has the length that the plan states for it, and where the plan states no message there is
+-- none
+abbrev pub PayloadsHaveTheirLengths : Type 0
+PayloadsHaveTheirLengths =
+    (plan : Gates) (owns : List Own) (table : Payloads) → length owns ≡ plan.parties → IsJoint plan owns table →
+    (g round from to : ℕ) → length (table g round from to) ≡ length_of (message plan from to g round)

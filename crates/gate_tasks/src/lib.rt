@@ -4,5 +4,7 @@
 mod laws;
 mod payload;
 
-pub use laws::{every_gate_recombines, one_joint_run, payloads_read_back};
+pub use laws::{
+    every_gate_recombines, one_joint_run, payloads_have_their_lengths, payloads_read_back,
+};
 pub use payload::{vector_in, vector_payload, word_in, word_payload};
