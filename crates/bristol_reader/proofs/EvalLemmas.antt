@@ -157,7 +157,7 @@ out_set c k at i h there before within =
     let here : get_or (take at c.gates) k h ≡ h = get_or-take at c.gates k h before ∙ get_or_from_slice_get c.gates k h h there in
     or_right (nat_lt w (sum c.inputs)) _ (list_any_at (λ g. is_among g.outs w) (take at c.gates) k h long (ap (λ (g : Gate). is_among g.outs w) here ∙ among))
 
-in_set : (c : Circuit) (h : Gate) (k : ℕ) → are_ins_set c h ≡ true → is_constant h.kind ≡ false → k < length h.ins → is_set c (get_or h.ins k 0) ≡ true
+pub in_set : (c : Circuit) (h : Gate) (k : ℕ) → are_ins_set c h ≡ true → is_constant h.kind ≡ false → k < length h.ins → is_set c (get_or h.ins k 0) ≡ true
 in_set c h k used wires within =
     let all : list_all (is_set c) h.ins ≡ true = ap (λ (b : Bool). b || list_all (is_set c) h.ins) (sym wires) ∙ used in
     AllPass-from_list_all (is_set c) h.ins all k 0 within
@@ -250,18 +250,18 @@ gate_parts gates at kind ins outs k i o = some_parts (slice_get gates at) kind i
 -- ---- once
 
 -- two lists of bits of the same wires agree on each wire that the first gates set
-input_alone : (c : Circuit) (w : ℕ) → is_set (first_gates 0 c) w ≡ true → w < sum c.inputs
+pub input_alone : (c : Circuit) (w : ℕ) → is_set (first_gates 0 c) w ≡ true → w < sum c.inputs
 unfolding is_set
 input_alone c w h = elim (or_cases (nat_lt w (sum c.inputs)) false h) [ inl low ↦ ltb-true w (sum c.inputs) low | inr none ↦ absurd (false≢true none) ]
 
-among_place : (ws : List ℕ) (w : ℕ) → is_among ws w ≡ true → (i : ℕ) × (i < length ws) × (get_or ws i 0 ≡ w)
+pub among_place : (ws : List ℕ) (w : ℕ) → is_among ws w ≡ true → (i : ℕ) × (i < length ws) × (get_or ws i 0 ≡ w)
 among_place [] w h = absurd (false≢true h)
 among_place (x ∷ ws) w h = elim (or_cases (x == w) (is_among ws w) h) [
   | inl here ↦ (0, omega arith, eqb-true x w here)
   | inr later ↦ (let p = among_place ws w later in (suc p.0, (let within = p.1 in omega arith), p.2))
 ]
 
-set_next : (c : Circuit) (n w : ℕ) → n < length c.gates → is_set (first_gates (suc n) c) w ≡ (is_set (first_gates n c) w || is_among (get_or c.gates n (a_gate Xor [] [])).outs w)
+pub set_next : (c : Circuit) (n w : ℕ) → n < length c.gates → is_set (first_gates (suc n) c) w ≡ (is_set (first_gates n c) w || is_among (get_or c.gates n (a_gate Xor [] [])).outs w)
 set_next c n w within =
     let g = get_or c.gates n (a_gate Xor [] []) in
     let e : suc n ≡ n + 1 = omega arith in
@@ -289,10 +289,10 @@ agree_to c inputs a b (suc n) built one other le w h =
     ]
 
 -- the output wires have the same bits
-all_set : (c : Circuit) (w : ℕ) → is_set c w ≡ true → is_set (first_gates (length c.gates) c) w ≡ true
+pub all_set : (c : Circuit) (w : ℕ) → is_set c w ≡ true → is_set (first_gates (length c.gates) c) w ≡ true
 all_set c w h = ap (λ (gs : List Gate). is_set (parts c.wires c.inputs c.outputs gs) w) (take_all (length c.gates) c.gates (omega arith)) ∙ h
 
-output_set : (c : Circuit) (w : ℕ) → IsCircuit c → c.wires - sum c.outputs ≤ w → w < c.wires → is_set c w ≡ true
+pub output_set : (c : Circuit) (w : ℕ) → IsCircuit c → c.wires - sum c.outputs ≤ w → w < c.wires → is_set c w ≡ true
 unfolding are_outputs_set
 output_set c w circuit low high =
     let from = c.wires - sum c.outputs in

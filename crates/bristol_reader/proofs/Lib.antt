@@ -16,4 +16,5 @@ pub mod TableLemmas
 pub mod JoinedLemmas
 pub mod WriteLemmas
 pub mod DecimalLemmas
+pub mod ReadCircuitLemmas
 pub mod ReadsBackLemmas

@@ -5,6 +5,7 @@ pub mod Marks
 pub mod Grammar
 pub mod Gives
 pub mod Built
+pub mod Read
 pub mod Stored
 pub mod Table
 pub mod Eval

@@ -1,4 +1,4 @@
-ghost use Rattle.std.specs.Prelude.{◌≡◌, ◌<◌, ◌==◌, length, slice_get, option_map, Some};
+ghost use Rattle.std.specs.Prelude.{◌≡◌, ◌<◌, ◌==◌, length, sum, slice_get, slice_index, option_map, Some};
 
 use crate::gates::Gates;
 use crate::kind::BristolKind;
@@ -57,6 +57,35 @@ impl Bristol {
         ensures circuit { IsCircuit self.entry.now }
     {
         &self.outputs
+    }
+
+    /// How many input values there are.
+    pub fn input_count(&self) -> u32
+        ensures { result ≡ length self.now.inputs }
+    {
+        self.inputs.len()
+    }
+
+    /// How many wires an input value has, at least one.
+    pub fn input_width(&self, at: u32) -> u32
+        requires { at < length self.now.inputs }
+        ensures { result ≡ slice_index self.now.inputs at }
+    {
+        self.inputs.width(at)
+    }
+
+    /// How many wires all input values have together.
+    pub fn input_wires(&self) -> u32
+        ensures { result ≡ sum self.now.inputs }
+    {
+        self.inputs.total()
+    }
+
+    /// How many wires all output values have together.
+    pub fn output_wires(&self) -> u32
+        ensures { result ≡ sum self.now.outputs }
+    {
+        self.outputs.total()
     }
 
     /// The number of wires, at most 4,194,304.

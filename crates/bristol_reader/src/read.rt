@@ -1,6 +1,7 @@
 ghost use Rattle.std.specs.Prelude.{◌≡◌, ◌≤◌, false, length, map, Ok, IfOk, IfErr};
 ghost use Rattle.mot_base.specs.Limits.{most_file_bytes};
 ghost use Rattle.bristol_reader.specs.Grammar.{EachReadsOrFaults, Reads, IsFirstFault, IsDone, circuit_of, read_last, behind_line, behind_words, behind_blank, ended};
+ghost use Rattle.bristol_reader.specs.Read.{EachReadIsCircuit};
 ghost use Rattle.bristol_reader.specs.Gives.{Gives, GivesAt};
 ghost use Rattle.bristol_reader.specs.declared.stage.Stage.TheVariants.{Body};
 
@@ -37,6 +38,12 @@ pub fn read_bristol(alloc: Global, bytes: &[u8]) -> Result<Bristol, BristolError
 /// Of every text exactly one is the case: it reads as one circuit, or one line and cause are its first fault.
 pub fn each_text_reads_or_faults()
     ensures { EachReadsOrFaults }
+{}
+
+/// Each circuit that is read is one: its headers are in order, each gate fits behind those before it, and each output
+/// wire is an input or set.
+pub fn each_read_is_circuit()
+    ensures { EachReadIsCircuit }
 {}
 
 /// The circuit behind the last line, whose number is given.
