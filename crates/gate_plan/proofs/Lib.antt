@@ -9,3 +9,9 @@ pub mod GatesLemmas
 pub mod StepLemmas
 pub mod BuiltLemmas
 pub mod KeepsLemmas
+pub mod BristolCountLemmas
+pub mod BristolBitLemmas
+pub mod BristolWireLemmas
+pub mod BristolPlanLemmas
+pub mod BristolKeepsLemmas
+pub mod BristolCodeLemmas

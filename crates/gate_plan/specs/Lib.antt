@@ -1,3 +1,4 @@
+pub mod Bristol
 pub mod Gate
 pub mod Keeps
 pub mod Lowering
@@ -5,3 +6,4 @@ pub mod Messages
 pub mod Needs
 pub mod Plain
 pub mod Plan
+pub mod Wired

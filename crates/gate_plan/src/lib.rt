@@ -1,7 +1,9 @@
 //! A circuit as gates: what each gate does, what it needs and which messages it has, and the lowering of circuits.
 #![tactic(auto)]
 
+mod bristol;
 mod error;
+mod expand;
 mod gate;
 mod laws;
 mod lower;
@@ -11,6 +13,7 @@ mod plan;
 mod slots;
 mod statement;
 
+pub use bristol::{lower_bristol, lowered_bristol_gates};
 pub use error::PlanError;
 pub use gate::GateKind;
 pub use laws::records_never_meet;

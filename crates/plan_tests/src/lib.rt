@@ -2,4 +2,6 @@
 #![tactic(auto)]
 
 #[cfg(test)]
+mod bristol;
+#[cfg(test)]
 mod plans;
