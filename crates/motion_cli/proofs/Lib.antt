@@ -8,3 +8,4 @@ pub mod SettledLemmas
 pub mod AnswerLemmas
 pub mod WordsLemmas
 pub mod PartsLemmas
+pub mod CircuitLemmas

@@ -1,14 +1,16 @@
 -- The lines of outputs, one after another.
-use Rattle.std.proofs.Common.{ℕ, ◌≡◌, ◌<◌, ◌+◌, Bool, true, false, cond, List, [], ◌∷◌, ◌++◌, length, take, Option, Some, None, refl, sym, ◌∙◌, ap, subst, add-one, append_assoc}
+use Rattle.std.proofs.Common.{ℕ, ◌≡◌, ◌<◌, ◌+◌, ◌-◌, ◌*◌, Bool, true, false, cond, List, [], ◌∷◌, ◌++◌, length, take, drop, arith, Option, Some, None, refl, sym, ◌∙◌, ap, subst, add-one, append_assoc}
 use Rattle.std.specs.Prelude.{slice_get, IfSome}
-use Rattle.std.proofs.lemmas.List.{append-nil}
+use Rattle.std.specs.Fmt.{digits}
+use Rattle.std.proofs.lemmas.List.{append-nil, drop-drop, length-drop, take_all}
+use Rattle.share_types.specs.Bits.{number}
 use Rattle.std.proofs.lemmas.List.Elements.{filter-append}
 use Rattle.circuit_values.specs.Table.{Told, is_receiver}
 use Rattle.circuit_values.proofs.Narrow.{some_at}
 use Rattle.mixed_circuit.proofs.ListLemmas.{take_next}
 use Rattle.text_lines.specs.Text.{Text}
 use Rattle.motion_cli.specs.declared.report.Notation.{Notation}
-use Rattle.motion_cli.specs.Report.{output_line, output_lines, told_to, party_report, parties_report}
+use Rattle.motion_cli.specs.Report.{hexadecimal_digits, output_line, output_lines, told_to, party_report, parties_report}
 
 lines-append : (notation : Notation) (xs ys : List Told) →
     output_lines notation (xs ++ ys) ≡ output_lines notation xs ++ output_lines notation ys
@@ -62,3 +64,29 @@ told_next notation party outputs at start before after within kept added =
 pub parties_next : (notation : Notation) (outputs : List Told) (party : ℕ) →
     parties_report notation outputs (party + 1) ≡ parties_report notation outputs party ++ party_report notation outputs party
 parties_next notation outputs party = ap (parties_report notation outputs) (add-one party)
+
+-- behind a text stand the first digits of bits, of so many
+abbrev pub DigitsTo : ℕ → List Bool → Text → ℕ → Text → Type 0
+DigitsTo count bits start at text = text ≡ start ++ hexadecimal_digits at (drop (4 * (count - at)) bits)
+
+-- one digit more
+pub digits_next : (count at : ℕ) (bits rest : List Bool) (start before after : Text) → at < count → DigitsTo count bits start at before →
+    rest ≡ drop (4 * (count - 1 - at)) bits → after ≡ before ++ digits 16 false (number (take 4 rest)) →
+    DigitsTo count bits start (at + 1) after
+digits_next count at bits rest start before after within kept is added =
+    let here = drop (4 * (count - 1 - at)) bits in
+    let last : Text = digits 16 false (number (take 4 here)) in
+    let higher : drop 4 here ≡ drop (4 * (count - at)) bits =
+    drop-drop 4 (4 * (count - 1 - at)) bits ∙ ap (λ (n : ℕ). drop n bits) (omega arith) in
+    let whole : hexadecimal_digits (at + 1) here ≡ hexadecimal_digits at (drop (4 * (count - at)) bits) ++ last =
+    ap (λ (n : ℕ). hexadecimal_digits n here) (add-one at) ∙ ap (λ (bs : List Bool). hexadecimal_digits at bs ++ last) higher in
+    let place : 4 * (count - 1 - at) ≡ 4 * (count - (at + 1)) = omega arith in
+    added
+    ∙ (ap (λ (bs : List Bool). before ++ digits 16 false (number (take 4 bs))) is
+    ∙ (ap (λ (text : Text). text ++ last) kept
+    ∙ (append_assoc start (hexadecimal_digits at (drop (4 * (count - at)) bits)) last
+    ∙ (ap (λ (text : Text). start ++ text) (sym whole) ∙ ap (λ (n : ℕ). start ++ hexadecimal_digits (at + 1) (drop n bits)) place))))
+
+-- the bits from a place on
+pub rest_of : (n : ℕ) (bits : List Bool) → take (length bits - n) (drop n bits) ≡ drop n bits
+rest_of n bits = take_all (length bits - n) (drop n bits) (let count = length-drop n bits in omega arith)

@@ -1,24 +1,32 @@
 -- What the words and the files of a call settle.
-use Rattle.std.proofs.Common.{ℕ, ◌≡◌, ◌≢◌, ◌<◌, ◌⊎◌, inl, inr, Bool, List, [], take, Option, Some, None, refl, sym, ap, subst, ◌∙◌, arith}
+use Rattle.std.proofs.Common.{ℕ, ◌≡◌, ◌≢◌, ◌<◌, ◌⊎◌, inl, inr, Bool, List, [], length, take, Option, Some, None, refl, sym, ap, subst, ◌∙◌, arith}
 use Rattle.std.specs.Prelude.{◌++◌, codes, IsSomeAnd, map, slice_get, option_map, false}
 use Rattle.mot_base.specs.Files.{Holding, IsTooLong}
 use Rattle.mot_base.specs.Limits.{most_file_bytes}
 use Rattle.share_types.specs.Bits.{number}
-use Rattle.text_lines.specs.Text.{Text}
+use Rattle.text_lines.specs.Text.{Text, lines as lines_of}
 use Rattle.text_lines.specs.LineReader.{LineReader, FirstFaultOf}
 use Rattle.text_lines.specs.LineReader as lines
 use Rattle.text_lines.proofs.ReaderLemmas.{reads_or_faults}
 use Rattle.circuit_values.specs.declared.cause.ValuesCause.{ValuesCause}
-use Rattle.circuit_values.specs.Table.{Told}
+use Rattle.circuit_values.specs.Table.{Told, AreCut}
+use Rattle.circuit_values.proofs.CutLemmas.{cuts_once}
 use Rattle.circuit_values.specs.Values as values
 use Rattle.mixed_circuit.specs.declared.cause.CircuitCause.{CircuitCause}
 use Rattle.mixed_circuit.specs.declared.read.Stage.{Stage}
-use Rattle.mixed_circuit.specs.Circuit.{Circuit}
-use Rattle.mixed_circuit.specs.Grammar as circuit
+use Rattle.mixed_circuit.specs.Circuit as mixed
 use Rattle.mixed_circuit.specs.Grammar.{circuits}
-use Rattle.mixed_circuit.specs.Table.{inputs_of}
 use Rattle.mixed_circuit.specs.Eval.{told_of}
 use Rattle.mixed_circuit.proofs.EvalLemmas.{evaluates_once}
+use Rattle.bristol_reader.specs.declared.cause.BristolCause.{BristolCause}
+use Rattle.bristol_reader.specs.Circuit as bristol
+use Rattle.bristol_reader.specs.Table as bristol_table
+use Rattle.bristol_reader.specs.Eval as bristol_eval
+use Rattle.bristol_reader.specs.Grammar as bristol_text
+use Rattle.bristol_reader.proofs.EvalLemmas.{same_outputs}
+use Rattle.bristol_reader.proofs.ReadCircuitLemmas.{reads_circuit}
+use Rattle.motion_cli.specs.declared.circuit.CircuitFault.{CircuitFault}
+use Rattle.motion_cli.specs.declared.circuit.CircuitFault.TheVariants as fault
 use Rattle.motion_cli.specs.declared.status.Status.TheVariants.{Done, Usage, File, Write}
 use Rattle.motion_cli.specs.declared.status.Status.TheVariants as status
 use Rattle.motion_cli.specs.declared.report.Notation.TheVariants.{Decimal}
@@ -28,11 +36,11 @@ use Rattle.motion_cli.specs.Outcome.{Outcome, file_refused, circuit_refused, val
 use Rattle.motion_cli.specs.Outcome.Kind.{report, refusal}
 use Rattle.motion_cli.specs.Parts.{part_name, part_files, part_length, deal_files, deal_id, dealt_line}
 use Rattle.motion_cli.specs.Refusal.{circuit_cause, values_cause}
-use Rattle.gate_plan.specs.Lowering.{all_gates, all_built, lowered}
+use Rattle.motion_cli.specs.Circuits.{Circuit, Mixed, InBristol, Reads, FirstFault, inputs_of, gates_of, is_built, plan_of, IsPlain, notation_of}
 use Rattle.std.specs.Fmt.{decimal}
 use Rattle.motion_cli.specs.Report.{output_lines, parties_report, needs_report}
-use Rattle.motion_cli.specs.Run.{is_built}
-use Rattle.cli_words.specs.Request.{Request, PlainRequest, NeedsRequest, DealRequest, LocalRequest, plain, needs, deal, local}
+use Rattle.motion_cli.specs.Run.{is_run_locally, parties_of}
+use Rattle.cli_words.specs.Request.{Request, Bristol, PlainRequest, NeedsRequest, DealRequest, LocalRequest, plain, needs, deal, local}
 use Rattle.motion_cli.specs.Words.{AsksFor, AsksPlain, AsksNeeds, AsksDeal, AsksLocal}
 use Rattle.motion_cli.proofs.PartsLemmas.{stored_files}
 use Rattle.motion_cli.proofs.WordsLemmas.{asked_once, plain_once, needs_once, deal_once, local_once}
@@ -158,7 +166,7 @@ circuit_refuses files name rest = record {
 }
 
 gates_refuses : (name : Text) (c : Circuit) → Refuses [] (gates_refused name c)
-gates_refuses name c = circuit_refuses [] name (codes "gates " ++ line (decimal (all_gates c)))
+gates_refuses name c = circuit_refuses [] name (codes "gates " ++ line (decimal (gates_of c)))
 
 values_refuses : (files : List (Text × Text)) (name rest : Text) → Refuses files (values_refused name rest)
 values_refuses files name rest = record {
@@ -225,11 +233,24 @@ stores_fair files text rose x (inr m) =
 
 -- The commands.
 
-reports_agree : (c : Circuit) (v : List (List Bool)) (text : List Told → Text) → Agree (Reports c v text) (Reports c v text)
-reports_agree c v text x y m n =
-    let same = evaluates_once c.statements (map number v) m.1.values n.1.values m.1.evaluated n.1.evaluated in
-    let outputs = m.1.told ∙ (ap (told_of c) same ∙ sym n.1.told) in
-    m.2 ∙ (ap (λ o. reported (text o)) outputs ∙ sym n.2)
+-- the outputs of the plain evaluation of a circuit that was read
+plain_is_one : (b : Option Bristol) (text : Text) (c : Circuit) (v : List (List Bool)) (o p : List Told) → Reads b text c →
+    IsPlain c v o → IsPlain c v p → o ≡ p
+plain_is_one None text (Mixed c) v o p reads m n =
+    let same = evaluates_once c.statements (map number v) m.values n.values m.evaluated n.evaluated in
+    m.told ∙ (ap (told_of c) same ∙ sym n.told)
+plain_is_one (Some b) text (Mixed c) v o p reads m n = absurd reads
+plain_is_one None text (InBristol w c) v o p reads m n = absurd reads
+plain_is_one (Some b) text (InBristol w c) v o p reads m n =
+    let same = same_outputs c v m.bits n.bits (reads_circuit text c reads.1) m.wires n.wires in
+    cuts_once (bristol_table.outputs_of c) (bristol_eval.output_bits c n.bits) o p
+    (subst (λ (bits : List Bool). AreCut (bristol_table.outputs_of c) bits o) same m.told) n.told
+
+reports_agree : (b : Option Bristol) (text : Text) (c : Circuit) → Reads b text c → (v : List (List Bool)) (shown : List Told → Text) →
+    Agree (Reports c v shown) (Reports c v shown)
+reports_agree b text c reads v shown x y m n =
+    let outputs = plain_is_one b text c v m.0 n.0 reads m.1 n.1 in
+    m.2 ∙ (ap (λ o. reported (shown o)) outputs ∙ sym n.2)
 
 reports_fair : (c : Circuit) (v : List (List Bool)) (text : List Told → Text) → Fair [] (Reports c v text) (Reports c v text)
 reports_fair c v text x m = inr (record {
@@ -240,33 +261,75 @@ reports_fair c v text x m = inr (record {
   fair = m;
 })
 
-abbrev circuit_fault : Text → Fault CircuitCause → Outcome
+abbrev circuit_fault : Text → Fault CircuitFault → Outcome
 circuit_fault name f = circuit_refused name (at_line f.line (circuit_cause f.cause))
 
 abbrev values_fault : Text → Fault ValuesCause → Outcome
 values_fault name f = values_refused name (at_line f.line (values_cause f.cause))
 
-circuit_agree : (name text : Text) (P Q : Circuit → Outcome → Type 0) → ((c : Circuit) → Agree (P c) (Q c)) →
-    Agree (ReadsCircuit name text P) (ReadsCircuit name text Q)
-circuit_agree name text P Q next = reads_agree Stage Circuit CircuitCause circuits text (circuit_fault name) P Q next
+-- of a text, in the language that the words say, one thing is the case
 
-circuit_fair : (name text : Text) (P Q : Circuit → Outcome → Type 0) → ((c : Circuit) → Fair [] (P c) (Q c)) →
-    Fair [] (ReadsCircuit name text P) (ReadsCircuit name text Q)
-circuit_fair name text P Q next =
-    reads_fair [] (λ (f : Fault CircuitCause). circuit.FirstFault text f.line f.cause) (circuit_fault name) (circuit.Reads text) P Q
+fault_is_one : (b : Option Bristol) (text : Text) (line other : ℕ) (cause another : CircuitFault) → FirstFault b text line cause →
+    FirstFault b text other another → (line ≡ other) × (cause ≡ another)
+fault_is_one None text line other (fault.Mixed c) (fault.Mixed d) m n =
+    let both = (reads_or_faults Stage mixed.Circuit CircuitCause circuits text).one_fault line other c d m n in
+    (both.0, ap fault.Mixed both.1)
+fault_is_one None text line other (fault.Bristol c) another m n = absurd m
+fault_is_one None text line other (fault.Mixed c) (fault.Bristol d) m n = absurd n
+fault_is_one (Some b) text line other (fault.Bristol c) (fault.Bristol d) m n =
+    let both = (reads_or_faults bristol_text.Known bristol.Circuit BristolCause (bristol_text.circuits (length (lines_of text))) text).one_fault line other c d m n in
+    (both.0, ap fault.Bristol both.1)
+fault_is_one (Some b) text line other (fault.Mixed c) another m n = absurd m
+fault_is_one (Some b) text line other (fault.Bristol c) (fault.Mixed d) m n = absurd n
+
+reading_is_one : (b : Option Bristol) (text : Text) (c d : Circuit) → Reads b text c → Reads b text d → c ≡ d
+reading_is_one None text (Mixed c) (Mixed d) m n = ap Mixed ((reads_or_faults Stage mixed.Circuit CircuitCause circuits text).one_value c d m n)
+reading_is_one None text (InBristol v c) d m n = absurd m
+reading_is_one None text (Mixed c) (InBristol w d) m n = absurd n
+reading_is_one (Some b) text (InBristol v c) (InBristol w d) m n =
+    let same = (reads_or_faults bristol_text.Known bristol.Circuit BristolCause (bristol_text.circuits (length (lines_of text))) text).one_value c d m.1 n.1 in
+    ap (λ (u : Bristol). InBristol u c) (m.0 ∙ sym n.0) ∙ ap (InBristol w) same
+reading_is_one (Some b) text (Mixed c) d m n = absurd m
+reading_is_one (Some b) text (InBristol v c) (Mixed d) m n = absurd n
+
+faulty_or_read : (b : Option Bristol) (text : Text) (c : Circuit) (line : ℕ) (cause : CircuitFault) → Reads b text c → FirstFault b text line cause → ⊥
+faulty_or_read None text (Mixed c) line (fault.Mixed cause) m n =
+    (reads_or_faults Stage mixed.Circuit CircuitCause circuits text).not_both c line cause m n
+faulty_or_read None text (InBristol v c) line cause m n = m
+faulty_or_read None text (Mixed c) line (fault.Bristol cause) m n = n
+faulty_or_read (Some b) text (InBristol v c) line (fault.Bristol cause) m n =
+    (reads_or_faults bristol_text.Known bristol.Circuit BristolCause (bristol_text.circuits (length (lines_of text))) text).not_both c line cause m.1 n
+faulty_or_read (Some b) text (Mixed c) line cause m n = m
+faulty_or_read (Some b) text (InBristol v c) line (fault.Mixed cause) m n = n
+
+circuit_agree : (b : Option Bristol) (name text : Text) (P Q : Circuit → Outcome → Type 0) →
+    ((c : Circuit) → Reads b text c → Agree (P c) (Q c)) → Agree (ReadsCircuit b name text P) (ReadsCircuit b name text Q)
+circuit_agree b name text P Q next x y (inl m) (inl n) =
+    let both = fault_is_one b text m.0.line n.0.line m.0.cause n.0.cause m.1 n.1 in
+    m.2 ∙ (ap (circuit_fault name) (one_fault m.0 n.0 both.0 both.1) ∙ sym n.2)
+circuit_agree b name text P Q next x y (inl m) (inr n) = absurd (faulty_or_read b text n.0 m.0.line m.0.cause n.1 m.1)
+circuit_agree b name text P Q next x y (inr m) (inl n) = absurd (faulty_or_read b text m.0 n.0.line n.0.cause m.1 n.1)
+circuit_agree b name text P Q next x y (inr m) (inr n) =
+    let same = reading_is_one b text m.0 n.0 m.1 n.1 in
+    next n.0 n.1 x y (subst (λ (c : Circuit). P c x) same m.2) n.2
+
+circuit_fair : (b : Option Bristol) (name text : Text) (P Q : Circuit → Outcome → Type 0) → ((c : Circuit) → Fair [] (P c) (Q c)) →
+    Fair [] (ReadsCircuit b name text P) (ReadsCircuit b name text Q)
+circuit_fair b name text P Q next =
+    reads_fair [] (λ (f : Fault CircuitFault). FirstFault b text f.line f.cause) (circuit_fault name) (Reads b text) P Q
     (λ f. circuit_refuses [] name (at_line f.line (circuit_cause f.cause))) next
 
 inputs_agree : (name : Text) (c : Circuit) (text : Text) (P Q : List (List Bool) → Outcome → Type 0) →
     ((v : List (List Bool)) → Agree (P v) (Q v)) → Agree (ReadsInputs name c text P) (ReadsInputs name c text Q)
 inputs_agree name c text P Q next =
-    reads_agree (List (Option (List Bool))) (List (List Bool)) ValuesCause (values.values (inputs_of c.statements) None) text
+    reads_agree (List (Option (List Bool))) (List (List Bool)) ValuesCause (values.values (inputs_of c) None) text
     (values_fault name) P Q next
 
 inputs_fair : (name : Text) (c : Circuit) (text : Text) (P Q : List (List Bool) → Outcome → Type 0) →
     ((v : List (List Bool)) → Fair [] (P v) (Q v)) → Fair [] (ReadsInputs name c text P) (ReadsInputs name c text Q)
 inputs_fair name c text P Q next =
-    reads_fair [] (λ (f : Fault ValuesCause). values.FirstFault (inputs_of c.statements) None text f.line f.cause) (values_fault name)
-    (values.ReadsValues (inputs_of c.statements) None text) P Q
+    reads_fair [] (λ (f : Fault ValuesCause). values.FirstFault (inputs_of c) None text f.line f.cause) (values_fault name)
+    (values.ReadsValues (inputs_of c) None text) P Q
     (λ f. values_refuses [] name (at_line f.line (values_cause f.cause))) next
 
 both_agree : (held : Holding) (rose : Type 0) (first second : Text) (P Q : Text → Text → Outcome → Type 0) → ¬ rose →
@@ -284,14 +347,15 @@ both_fair told rose first second P Q next =
     (λ c. loads_fair [] told rose second (P c) (Q c) (next c))
 
 plain_agree : (request : PlainRequest) (circuit values : Text) → Agree (PlainReads request circuit values) (PlainReads request circuit values)
-plain_agree request circuit values = circuit_agree request.circuit circuit _ _
-    (λ c. unless_agree (HasTooMany c) (gates_refused request.circuit c) _ _
-    (inputs_agree request.values c values _ _ (λ v. reports_agree c v (output_lines Decimal))))
+plain_agree request circuit values = circuit_agree request.bristol request.circuit circuit _ _
+    (λ c reads. unless_agree (HasTooMany c) (gates_refused request.circuit c) _ _
+    (inputs_agree request.values c values _ _
+    (λ v. reports_agree request.bristol circuit c reads v (output_lines (notation_of c)))))
 
 plain_fair : (request : PlainRequest) (circuit values : Text) → Fair [] (PlainReads request circuit values) (PlainReads request circuit values)
-plain_fair request circuit values = circuit_fair request.circuit circuit _ _
+plain_fair request circuit values = circuit_fair request.bristol request.circuit circuit _ _
     (λ c. unless_fair [] (HasTooMany c) (gates_refused request.circuit c) _ _ (gates_refuses request.circuit c)
-    (inputs_fair request.values c values _ _ (λ v. reports_fair c v (output_lines Decimal))))
+    (inputs_fair request.values c values _ _ (λ v. reports_fair c v (output_lines (notation_of c)))))
 
 says_agree : (o : Outcome) → Agree (λ end. end ≡ o) (λ end. end ≡ o)
 says_agree o x y m n = m ∙ sym n
@@ -306,27 +370,28 @@ says_fair text x m = inr (record {
 })
 
 needs_agree : (request : NeedsRequest) (circuit : Text) → Agree (NeedsReads request circuit) (NeedsReads request circuit)
-needs_agree request circuit = circuit_agree request.circuit circuit _ _
-    (λ c. unless_agree (all_built c ≡ false) (circuit_refused request.circuit (line (codes "not built"))) _ _
-    (unless_agree (HasTooMany c) (gates_refused request.circuit c) _ _ (says_agree (reported (needs_report (lowered c))))))
+needs_agree request circuit = circuit_agree request.bristol request.circuit circuit _ _
+    (λ c reads. unless_agree (is_built c ≡ false) (circuit_refused request.circuit (line (codes "not built"))) _ _
+    (unless_agree (HasTooMany c) (gates_refused request.circuit c) _ _ (says_agree (reported (needs_report (plan_of c))))))
 
 needs_fair : (request : NeedsRequest) (circuit : Text) → Fair [] (NeedsReads request circuit) (NeedsReads request circuit)
-needs_fair request circuit = circuit_fair request.circuit circuit _ _
-    (λ c. unless_fair [] (all_built c ≡ false) (circuit_refused request.circuit (line (codes "not built"))) _ _
-    (circuit_refuses [] request.circuit (line (codes "not built")))
-    (unless_fair [] (HasTooMany c) (gates_refused request.circuit c) _ _ (gates_refuses request.circuit c)
-    (says_fair (needs_report (lowered c)))))
-
-local_agree : (request : LocalRequest) (circuit values : Text) → Agree (LocalReads request circuit values) (LocalReads request circuit values)
-local_agree request circuit values = circuit_agree request.circuit circuit _ _
-    (λ c. unless_agree (is_built c ≡ false) (circuit_refused request.circuit (line (codes "not built"))) _ _
-    (inputs_agree request.values c values _ _ (λ v. reports_agree c v (λ outputs. parties_report Decimal outputs c.parties))))
-
-local_fair : (request : LocalRequest) (circuit values : Text) → Fair [] (LocalReads request circuit values) (LocalReads request circuit values)
-local_fair request circuit values = circuit_fair request.circuit circuit _ _
+needs_fair request circuit = circuit_fair request.bristol request.circuit circuit _ _
     (λ c. unless_fair [] (is_built c ≡ false) (circuit_refused request.circuit (line (codes "not built"))) _ _
     (circuit_refuses [] request.circuit (line (codes "not built")))
-    (inputs_fair request.values c values _ _ (λ v. reports_fair c v (λ outputs. parties_report Decimal outputs c.parties))))
+    (unless_fair [] (HasTooMany c) (gates_refused request.circuit c) _ _ (gates_refuses request.circuit c)
+    (says_fair (needs_report (plan_of c)))))
+
+local_agree : (request : LocalRequest) (circuit values : Text) → Agree (LocalReads request circuit values) (LocalReads request circuit values)
+local_agree request circuit values = circuit_agree request.bristol request.circuit circuit _ _
+    (λ c reads. unless_agree (is_run_locally c ≡ false) (circuit_refused request.circuit (line (codes "not built"))) _ _
+    (inputs_agree request.values c values _ _
+    (λ v. reports_agree request.bristol circuit c reads v (λ outputs. parties_report Decimal outputs (parties_of c)))))
+
+local_fair : (request : LocalRequest) (circuit values : Text) → Fair [] (LocalReads request circuit values) (LocalReads request circuit values)
+local_fair request circuit values = circuit_fair request.bristol request.circuit circuit _ _
+    (λ c. unless_fair [] (is_run_locally c ≡ false) (circuit_refused request.circuit (line (codes "not built"))) _ _
+    (circuit_refuses [] request.circuit (line (codes "not built")))
+    (inputs_fair request.values c values _ _ (λ v. reports_fair c v (λ outputs. parties_report Decimal outputs (parties_of c)))))
 
 deal_agree : (told : Option Holding) (rose : Type 0) (r : DealRequest) → ¬ rose → Agree (DealEnds told rose r) (DealEnds told ⊥ r)
 deal_agree told rose r quiet =

@@ -3,39 +3,35 @@ use Rattle.std.specs.Prelude.{◌≡◌, ◌<◌, ◌++◌, Bool, false, List, [
 use Rattle.mot_base.specs.Files.{Holding}
 use Rattle.mot_base.specs.Limits.{most_file_bytes, most_gates}
 use Rattle.std.specs.Fmt.{decimal}
-use Rattle.cli_words.specs.Request.{Request, PlainRequest, NeedsRequest, DealRequest, LocalRequest, plain, needs, deal, local}
+use Rattle.cli_words.specs.Request.{Request, PlainRequest, NeedsRequest, DealRequest, LocalRequest, Bristol, plain, needs, deal, local}
 use Rattle.circuit_values.specs.declared.cause.ValuesCause.{ValuesCause}
 use Rattle.circuit_values.specs.Table.{Told}
 use Rattle.circuit_values.specs.Values as values
-use Rattle.mixed_circuit.specs.declared.cause.CircuitCause.{CircuitCause}
-use Rattle.mixed_circuit.specs.Circuit.{Circuit}
-use Rattle.mixed_circuit.specs.Grammar as circuits
-use Rattle.mixed_circuit.specs.Table.{inputs_of}
-use Rattle.mixed_circuit.specs.Eval.{IsPlain}
 use Rattle.text_lines.specs.Text.{Text}
-use Rattle.gate_plan.specs.Lowering.{all_gates, all_built, lowered}
+use Rattle.motion_cli.specs.declared.circuit.CircuitFault.{CircuitFault}
 use Rattle.motion_cli.specs.declared.report.Notation.TheVariants.{Decimal}
+use Rattle.motion_cli.specs.Circuits.{Circuit, Reads, FirstFault, inputs_of, gates_of, is_built, plan_of, IsPlain, notation_of}
 use Rattle.motion_cli.specs.Outcome.{Outcome, reported, line, at_line, file_refused, circuit_refused, values_refused}
 use Rattle.motion_cli.specs.Parts.{part_name, part_files, part_length, deal_files, deal_id, dealt_line}
 use Rattle.motion_cli.specs.Refusal.{circuit_cause, values_cause}
 use Rattle.motion_cli.specs.Report.{output_lines, parties_report, needs_report}
-use Rattle.motion_cli.specs.Run.{is_built}
+use Rattle.motion_cli.specs.Run.{is_run_locally, parties_of}
 use Rattle.motion_cli.specs.Steps.{Fault, Loads, ReadsAs, Unless, StoresAll}
 
--- the text of a file is read as a circuit
-abbrev pub ReadsCircuit : Text → Text → (Circuit → Outcome → Type 0) → Outcome → Type 0
-ReadsCircuit name text = ReadsAs {F = Fault CircuitCause} {C = Circuit}
-    (λ f. circuits.FirstFault text f.line f.cause)
+-- the text of a file is read as a circuit, where the words say whether it is in Bristol Fashion
+abbrev pub ReadsCircuit : Option Bristol → Text → Text → (Circuit → Outcome → Type 0) → Outcome → Type 0
+ReadsCircuit bristol name text = ReadsAs {F = Fault CircuitFault} {C = Circuit}
+    (λ f. FirstFault bristol text f.line f.cause)
     (λ f. circuit_refused name (at_line f.line (circuit_cause f.cause)))
-    (circuits.Reads text)
+    (Reads bristol text)
 
 -- the text of a file is read as the values of all inputs of a circuit
 abbrev pub ReadsInputs : Text → Circuit → Text → (List (List Bool) → Outcome → Type 0) → Outcome →
     Type 0
 ReadsInputs name c text = ReadsAs {F = Fault ValuesCause} {C = List (List Bool)}
-    (λ f. values.FirstFault (inputs_of c.statements) None text f.line f.cause)
+    (λ f. values.FirstFault (inputs_of c) None text f.line f.cause)
     (λ f. values_refused name (at_line f.line (values_cause f.cause)))
-    (values.ReadsValues (inputs_of c.statements) None text)
+    (values.ReadsValues (inputs_of c) None text)
 
 -- the outputs of the plain evaluation of a circuit on values are reported so
 abbrev pub Reports : Circuit → List (List Bool) → (List Told → Text) → Outcome → Type 0
@@ -53,18 +49,18 @@ AreUnloaded told rose circuit values = LoadsBoth told rose circuit values (λ c 
 
 -- a circuit has too many gates
 abbrev pub HasTooMany : Circuit → Type 0
-HasTooMany c = most_gates < all_gates c
+HasTooMany c = most_gates < gates_of c
 
 abbrev pub gates_refused : Text → Circuit → Outcome
-gates_refused name c = circuit_refused name (codes "gates " ++ line (decimal (all_gates c)))
+gates_refused name c = circuit_refused name (codes "gates " ++ line (decimal (gates_of c)))
 
 -- `plain`, once both files are loaded: too many gates are told before the values
 abbrev pub PlainReads : PlainRequest → Text → Text → Outcome → Type 0
 PlainReads request circuit values =
-    ReadsCircuit request.circuit circuit (λ c.
+    ReadsCircuit request.bristol request.circuit circuit (λ c.
     Unless (HasTooMany c) (gates_refused request.circuit c) (
     ReadsInputs request.values c values (λ v.
-    Reports c v (output_lines Decimal))))
+    Reports c v (output_lines (notation_of c)))))
 
 -- `plain`: each output of the plain evaluation
 abbrev pub PlainEnds : Option Holding → Type 0 → PlainRequest → Outcome → Type 0
@@ -73,10 +69,10 @@ PlainEnds told rose request = LoadsBoth told rose request.circuit request.values
 -- `needs`, once the file is loaded: what the plan of the circuit needs
 abbrev pub NeedsReads : NeedsRequest → Text → Outcome → Type 0
 NeedsReads request circuit =
-    ReadsCircuit request.circuit circuit (λ c.
-    Unless (all_built c ≡ false) (circuit_refused request.circuit (line (codes "not built"))) (
+    ReadsCircuit request.bristol request.circuit circuit (λ c.
+    Unless (is_built c ≡ false) (circuit_refused request.circuit (line (codes "not built"))) (
     Unless (HasTooMany c) (gates_refused request.circuit c) (λ end.
-    end ≡ reported (needs_report (lowered c)))))
+    end ≡ reported (needs_report (plan_of c)))))
 
 -- `needs`: how many gates a circuit has, and how many correlations of each kind they need
 abbrev pub NeedsEnds : Option Holding → Type 0 → NeedsRequest → Outcome → Type 0
@@ -85,10 +81,10 @@ NeedsEnds told rose request = Loads told rose request.circuit (NeedsReads reques
 -- `local`, once both files are loaded: a circuit that is not built is told before the values
 abbrev pub LocalReads : LocalRequest → Text → Text → Outcome → Type 0
 LocalReads request circuit values =
-    ReadsCircuit request.circuit circuit (λ c.
-    Unless (is_built c ≡ false) (circuit_refused request.circuit (line (codes "not built"))) (
+    ReadsCircuit request.bristol request.circuit circuit (λ c.
+    Unless (is_run_locally c ≡ false) (circuit_refused request.circuit (line (codes "not built"))) (
     ReadsInputs request.values c values (λ v.
-    Reports c v (λ outputs. parties_report Decimal outputs c.parties))))
+    Reports c v (λ outputs. parties_report Decimal outputs (parties_of c)))))
 
 -- `local`: for each party, the outputs that it is told
 abbrev pub LocalEnds : Option Holding → Type 0 → LocalRequest → Outcome → Type 0

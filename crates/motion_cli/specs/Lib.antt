@@ -1,3 +1,4 @@
+pub mod Circuits
 pub mod Commands
 pub mod Deal
 pub mod Ending

@@ -7,10 +7,14 @@ use Rattle.circuit_values.specs.declared.cause.ValuesCause.{ValuesCause}
 use Rattle.circuit_values.specs.declared.cause.ValuesCause.TheVariants as values
 use Rattle.mixed_circuit.specs.declared.cause.CircuitCause.{CircuitCause}
 use Rattle.mixed_circuit.specs.declared.cause.CircuitCause.TheVariants as circuit
+use Rattle.bristol_reader.specs.declared.cause.BristolCause.{BristolCause}
+use Rattle.bristol_reader.specs.declared.cause.BristolCause.TheVariants as bristol
 use Rattle.cli_words.specs.declared.read.WordsError.{WordsError}
 use Rattle.cli_words.specs.declared.read.WordsError.TheVariants as words
 use Rattle.motion_cli.specs.declared.status.Status.{Status}
 use Rattle.motion_cli.specs.declared.status.Status.TheVariants as status
+use Rattle.motion_cli.specs.declared.circuit.CircuitFault.{CircuitFault}
+use Rattle.motion_cli.specs.declared.circuit.CircuitFault.TheVariants as fault
 use Rattle.motion_cli.specs.declared.refusal.FileCause.{FileCause}
 use Rattle.motion_cli.specs.declared.refusal.FileCause.TheVariants.{Missing, TooLong, Fault}
 use Rattle.motion_cli.specs.declared.refusal.Refusal.{Refusal}
@@ -23,18 +27,37 @@ cause_of Missing = codes "missing"
 cause_of TooLong = codes "too long"
 cause_of Fault = codes "fault"
 
+-- the name of a cause in the text of a mixed circuit
+abbrev pub mixed_cause : CircuitCause → Text
+mixed_cause circuit.NotText = codes "NotText"
+mixed_cause circuit.Header = codes "Header"
+mixed_cause circuit.Word = codes "Word"
+mixed_cause circuit.NameTwice = codes "NameTwice"
+mixed_cause circuit.NameUnknown = codes "NameUnknown"
+mixed_cause circuit.WrongSharing = codes "WrongSharing"
+mixed_cause circuit.WrongWidth = codes "WrongWidth"
+mixed_cause circuit.BadNumber = codes "BadNumber"
+mixed_cause circuit.BadParty = codes "BadParty"
+mixed_cause circuit.TooMany = codes "TooMany"
+
+-- the name of a cause in a text in Bristol Fashion
+abbrev pub bristol_cause : BristolCause → Text
+bristol_cause bristol.NotText = codes "NotText"
+bristol_cause bristol.Header = codes "Header"
+bristol_cause bristol.Counts = codes "Counts"
+bristol_cause bristol.GateName = codes "GateName"
+bristol_cause bristol.Arity = codes "Arity"
+bristol_cause bristol.WireRange = codes "WireRange"
+bristol_cause bristol.UsedBeforeSet = codes "UsedBeforeSet"
+bristol_cause bristol.SetTwice = codes "SetTwice"
+bristol_cause bristol.OutputUnset = codes "OutputUnset"
+bristol_cause bristol.Leftover = codes "Leftover"
+bristol_cause bristol.TooMany = codes "TooMany"
+
 -- the name of a cause in a circuit's text
-abbrev pub circuit_cause : CircuitCause → Text
-circuit_cause circuit.NotText = codes "NotText"
-circuit_cause circuit.Header = codes "Header"
-circuit_cause circuit.Word = codes "Word"
-circuit_cause circuit.NameTwice = codes "NameTwice"
-circuit_cause circuit.NameUnknown = codes "NameUnknown"
-circuit_cause circuit.WrongSharing = codes "WrongSharing"
-circuit_cause circuit.WrongWidth = codes "WrongWidth"
-circuit_cause circuit.BadNumber = codes "BadNumber"
-circuit_cause circuit.BadParty = codes "BadParty"
-circuit_cause circuit.TooMany = codes "TooMany"
+abbrev pub circuit_cause : CircuitFault → Text
+circuit_cause (fault.Mixed cause) = mixed_cause cause
+circuit_cause (fault.Bristol cause) = bristol_cause cause
 
 -- the name of a cause in a text of values
 abbrev pub values_cause : ValuesCause → Text

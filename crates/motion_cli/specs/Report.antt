@@ -1,6 +1,7 @@
 -- What commands report.
-use Rattle.std.specs.Prelude.{ℕ, zero, suc, Bool, List, [], ◌∷◌, ◌++◌, codes, filter, length}
-use Rattle.std.specs.Fmt.{decimal}
+use Rattle.std.specs.Prelude.{ℕ, zero, suc, ◌≤◌, Bool, false, List, [], ◌∷◌, ◌++◌, All, codes, filter, length, take, drop, ◌+◌, ◌/◌}
+use Rattle.std.specs.Fmt.{decimal, digits}
+use Rattle.mot_base.specs.Limits.{most_width}
 use Rattle.share_types.specs.Bits.{number}
 use Rattle.share_types.specs.declared.needs.Needs.{Needs}
 use Rattle.circuit_values.specs.Table.{Told, is_receiver}
@@ -9,11 +10,22 @@ use Rattle.gate_plan.specs.Plan.{Gates}
 use Rattle.gate_plan.specs.Needs.{all_needs}
 use Rattle.motion_cli.specs.Outcome.{line, line_end}
 use Rattle.motion_cli.specs.declared.report.Notation.{Notation}
-use Rattle.motion_cli.specs.declared.report.Notation.TheVariants.{Decimal}
+use Rattle.motion_cli.specs.declared.report.Notation.TheVariants.{Decimal, Hexadecimal}
+
+-- bits as so many lower-case hexadecimal digits, each of four bits, the highest digit first
+abbrev pub hexadecimal_digits : ℕ → List Bool → Text
+hexadecimal_digits zero bits = []
+hexadecimal_digits (suc more) bits = hexadecimal_digits more (drop 4 bits) ++ digits 16 false (number (take 4 bits))
 
 -- how the bits of an output are written
 abbrev pub written : Notation → List Bool → Text
 written Decimal bits = decimal (number bits)
+written Hexadecimal bits = codes "0x" ++ hexadecimal_digits ((length bits + 3) / 4) bits
+
+-- whether all outputs can be written so: decimal numbers have at most 64 bits
+abbrev pub AreShort : Notation → List Told → Type 0
+AreShort Decimal outputs = All (λ t. length t.bits ≤ most_width) outputs
+AreShort Hexadecimal outputs = Unit {0}
 
 -- the line of an output: its name and its value
 abbrev pub output_line : Notation → Told → Text

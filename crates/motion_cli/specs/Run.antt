@@ -11,6 +11,8 @@ use Rattle.mixed_circuit.specs.declared.language.Operation.TheVariants.{InputWor
 use Rattle.mixed_circuit.specs.Circuit.{Circuit, Statement, Shape}
 use Rattle.mixed_circuit.specs.Table.{inputs_of}
 use Rattle.motion_cli.specs.declared.run.Shares.{Shares}
+use Rattle.motion_cli.specs.Circuits as any
+use Rattle.motion_cli.specs.Circuits.{Mixed, InBristol}
 use Rattle.motion_cli.specs.Deal.{first_part, second_part}
 
 -- What is built.
@@ -27,9 +29,23 @@ runs_operation _ party = false
 abbrev pub is_run : Shape → Bool
 is_run shape = runs_operation shape.operation shape.party
 
--- a circuit that `local` runs: of two parties, with such statements alone
+-- how many parties run a circuit: as yet two
+abbrev pub run_parties : ℕ
+run_parties = 2
+
+-- a mixed circuit that `local` runs: of two parties, with such statements alone
 abbrev pub is_built : Circuit → Bool
-is_built c = c.parties == 2 && list_all (λ s. is_run s.shape) c.statements
+is_built c = c.parties == run_parties && list_all (λ s. is_run s.shape) c.statements
+
+-- a circuit that `local` runs
+abbrev pub is_run_locally : any.Circuit → Bool
+is_run_locally (Mixed c) = is_built c
+is_run_locally (InBristol b c) = false
+
+-- how many parties a circuit has
+abbrev pub parties_of : any.Circuit → ℕ
+parties_of (Mixed c) = c.parties
+parties_of (InBristol b c) = b.parties
 
 -- the word that the shares of both parties stand for
 abbrev pub word_of_shares : Shares → ℕ

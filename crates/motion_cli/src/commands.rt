@@ -1,31 +1,32 @@
 //! What each command comes to.
 
-ghost use Rattle.std.specs.Prelude.{◌≡◌, ◌≤◌, ◌⊎◌, length, map, true, false, codes, None, IfOk, IfErr, string_bytes};
+ghost use Rattle.std.specs.Prelude.{◌≡◌, ◌≤◌, ◌⊎◌, length, map, true, false, codes, None, option_map, OnOk, IfOk, IfErr, string_bytes};
 ghost use Rattle.mot_base.specs.Faults.{Rose};
 ghost use Rattle.mot_base.specs.Limits.{most_file_bytes};
 ghost use Rattle.circuit_values.specs.declared.cause.ValuesCause.{ValuesCause};
 ghost use Rattle.circuit_values.specs.Values.{ReadsValues, HaveWidths};
 ghost use Rattle.circuit_values.specs.Values as values;
-ghost use Rattle.mixed_circuit.specs.declared.cause.CircuitCause.{CircuitCause};
-ghost use Rattle.mixed_circuit.specs.Grammar.{Reads, FirstFault};
-ghost use Rattle.mixed_circuit.specs.Table.{inputs_of};
-ghost use Rattle.gate_plan.specs.Lowering.{all_built, lowered};
+ghost use Rattle.mixed_circuit.specs.Table as mixed_inputs;
+ghost use Rattle.motion_cli.specs.declared.circuit.CircuitFault.{CircuitFault};
+ghost use Rattle.motion_cli.specs.Circuits as any;
+ghost use Rattle.motion_cli.specs.Circuits.{circuit_of, notation_of, Reads, FirstFault, inputs_of, plan_of};
 ghost use Rattle.motion_cli.specs.Commands.{HasTooMany, gates_refused, PlainReads, PlainEnds, NeedsReads, NeedsEnds, LocalReads, LocalEnds, Reports};
 ghost use Rattle.motion_cli.specs.Outcome.{line, at_line, memory, reported, circuit_refused, values_refused};
 ghost use Rattle.motion_cli.specs.Refusal.{outcome_of, came_to, circuit_cause, values_cause};
 ghost use Rattle.motion_cli.specs.Report.{output_lines, parties_report};
-ghost use Rattle.motion_cli.specs.Run.{is_built, word_of_shares};
+ghost use Rattle.motion_cli.specs.Run.{is_built, is_run_locally, parties_of, word_of_shares};
 ghost use Rattle.motion_cli.specs.Steps.{Fault};
-ghost use Rattle.cli_words.specs.Request.{plain_request, needs_request, local_request};
+ghost use Rattle.cli_words.specs.Request.{bristol_of, plain_request, needs_request, local_request};
 
+use crate::circuit::{Circuit, ReadError, read_circuit};
 use crate::load::{load, load_both};
 use crate::refusal::Refusal;
 use crate::report::{Notation, report_all, report_needs, report_parties};
 use crate::run::{Shares, is_built, run_on_shares};
 use circuit_values::{Values, ValuesError, read_values};
-use cli_words::{LocalWords, NeedsWords, PlainWords};
-use gate_plan::{Plan, PlanError, lower_mixed, lowered_gates};
-use mixed_circuit::{CircuitError, Mixed, plain, read_mixed};
+use cli_words::{BristolWords, LocalWords, NeedsWords, PlainWords};
+use gate_plan::{Plan, PlanError};
+use mixed_circuit::Mixed;
 use mot_base::{Files, MAX_GATES, NoMemory};
 use std::alloc::Global;
 
@@ -57,17 +58,37 @@ fn plain_of_texts<'a>(
     ensures { PlainReads (plain_request words.entry.now) circuit.items values.items (came_to result)
         ⊎ (came_to result ≡ memory) }
 {
-    let circuit = circuit_of(alloc, words.circuit.as_str(), circuit)?;
-    let gates = lowered_gates(&circuit);
-    if gates > u64::from(MAX_GATES) {
-        return Err(Refusal::Gates {
-            name: words.circuit.as_str(),
-            gates,
-        });
-    }
+    let circuit = circuit_of(alloc, words.circuit.as_str(), words.bristol, circuit)?;
+    judge_gates(words.circuit.as_str(), &circuit)?;
     let values = values_of(alloc, words.values.as_str(), &circuit, values)?;
-    let outputs = plain(alloc, &circuit, &values)?;
-    Ok(report_all(alloc, Notation::Decimal, &outputs)?)
+    Ok(evaluate_and_report(alloc, &circuit, &values)?)
+}
+
+/// Refuses a circuit that has too many gates.
+fn judge_gates<'a>(name: &'a str, circuit: &Circuit) -> Result<(), Refusal<'a>>
+    ensures few { OnOk result (¬ (HasTooMany (circuit_of circuit.now))) }
+    ensures err { IfErr result (λ refusal. HasTooMany (circuit_of circuit.now)
+        × (outcome_of refusal ≡ gates_refused name.entry.now (circuit_of circuit.now))) }
+{
+    let gates = circuit.gates();
+    if gates > u64::from(MAX_GATES) {
+        return Err(Refusal::Gates { name, gates });
+    }
+    Ok(())
+}
+
+/// Evaluates a circuit, and reports its outputs.
+fn evaluate_and_report(
+    alloc: Global,
+    circuit: &Circuit,
+    values: &Values,
+) -> Result<String, NoMemory>
+    requires { HaveWidths None (inputs_of (circuit_of circuit.now)) values.now }
+    ensures { IfOk result (λ text. Reports (circuit_of circuit.now) values.now
+        (output_lines (notation_of (circuit_of circuit.now))) (reported (string_bytes text))) }
+{
+    let outputs = circuit.evaluate(alloc, values)?;
+    report_all(alloc, circuit.notation(), &outputs)
 }
 
 /// The report of `needs`: how many gates the circuit has, and how many correlations of each kind they need.
@@ -96,24 +117,24 @@ fn needs_of_text<'a>(
     ensures { NeedsReads (needs_request words.entry.now) text.items (came_to result)
         ⊎ (came_to result ≡ memory) }
 {
-    let circuit = circuit_of(alloc, words.circuit.as_str(), text)?;
+    let circuit = circuit_of(alloc, words.circuit.as_str(), words.bristol, text)?;
     let plan = plan_of(alloc, words.circuit.as_str(), &circuit)?;
     Ok(report_needs(alloc, &plan)?)
 }
 
 /// The plan of a circuit.
-fn plan_of<'a>(alloc: Global, name: &'a str, circuit: &Mixed) -> Result<Plan, Refusal<'a>>
-    ensures plan { IfOk result (λ plan. plan ≡ lowered circuit.now) }
-    ensures built { IfOk result (λ plan. all_built circuit.now ≡ true) }
-    ensures few { IfOk result (λ plan. ¬ (HasTooMany circuit.now)) }
+fn plan_of<'a>(alloc: Global, name: &'a str, circuit: &Circuit) -> Result<Plan, Refusal<'a>>
+    ensures plan { IfOk result (λ plan. plan ≡ plan_of (circuit_of circuit.now)) }
+    ensures built { IfOk result (λ plan. any.is_built (circuit_of circuit.now) ≡ true) }
+    ensures few { IfOk result (λ plan. ¬ (HasTooMany (circuit_of circuit.now))) }
     ensures err { IfErr result (λ refusal.
-        ((all_built circuit.now ≡ false)
+        ((any.is_built (circuit_of circuit.now) ≡ false)
         × (outcome_of refusal ≡ circuit_refused name.entry.now (line (codes "not built"))))
-        ⊎ (((all_built circuit.now ≡ true) × HasTooMany circuit.now
-        × (outcome_of refusal ≡ gates_refused name.entry.now circuit.now))
+        ⊎ (((any.is_built (circuit_of circuit.now) ≡ true) × HasTooMany (circuit_of circuit.now)
+        × (outcome_of refusal ≡ gates_refused name.entry.now (circuit_of circuit.now)))
         ⊎ (outcome_of refusal ≡ memory))) }
 {
-    match lower_mixed(alloc, circuit) {
+    match circuit.plan(alloc) {
         Ok(plan) => Ok(plan),
         Err(PlanError::NotBuilt) => Err(Refusal::NotBuilt { name }),
         Err(PlanError::TooManyGates { gates }) => Err(Refusal::Gates { name, gates }),
@@ -149,8 +170,8 @@ fn local_of_texts<'a>(
     ensures { LocalReads (local_request words.entry.now) circuit.items values.items (came_to result)
         ⊎ (came_to result ≡ memory) }
 {
-    let circuit = circuit_of(alloc, words.circuit.as_str(), circuit)?;
-    if !is_built(&circuit) {
+    let circuit = circuit_of(alloc, words.circuit.as_str(), words.bristol, circuit)?;
+    if !is_run_locally(&circuit) {
         return Err(Refusal::NotBuilt {
             name: words.circuit.as_str(),
         });
@@ -159,16 +180,45 @@ fn local_of_texts<'a>(
     Ok(run_and_report(alloc, words, &circuit, &values)?)
 }
 
+/// Whether `local` runs a circuit.
+fn is_run_locally(circuit: &Circuit) -> bool
+    ensures { result ≡ is_run_locally (circuit_of circuit.now) }
+{
+    match circuit {
+        Circuit::Mixed(circuit) => is_built(circuit),
+        Circuit::Bristol(..) => false,
+    }
+}
+
 /// Runs a circuit on shares, and reports its outputs.
 fn run_and_report(
+    alloc: Global,
+    words: &LocalWords,
+    circuit: &Circuit,
+    values: &Values,
+) -> Result<String, NoMemory>
+    requires built { is_run_locally (circuit_of circuit.now) ≡ true }
+    requires widths { HaveWidths None (inputs_of (circuit_of circuit.now)) values.now }
+    ensures { IfOk result (λ text. Reports (circuit_of circuit.now) values.now
+        (λ outputs. parties_report Notation.Decimal outputs (parties_of (circuit_of circuit.now)))
+        (reported (string_bytes text))) }
+{
+    match circuit {
+        Circuit::Mixed(circuit) => run_mixed(alloc, words, circuit, values),
+        Circuit::Bristol(..) => unreachable!(),
+    }
+}
+
+/// Runs a mixed circuit on shares, and reports its outputs.
+fn run_mixed(
     alloc: Global,
     words: &LocalWords,
     circuit: &Mixed,
     values: &Values,
 ) -> Result<String, NoMemory>
     requires built { is_built circuit.now ≡ true }
-    requires widths { HaveWidths None (inputs_of circuit.now.statements) values.now }
-    ensures { IfOk result (λ text. Reports circuit.now values.now
+    requires widths { HaveWidths None (mixed_inputs.inputs_of circuit.now.statements) values.now }
+    ensures { IfOk result (λ text. Reports (any.Mixed circuit.now) values.now
         (λ outputs. parties_report Notation.Decimal outputs circuit.now.parties)
         (reported (string_bytes text))) }
 {
@@ -191,19 +241,25 @@ fn words_of(alloc: Global, shares: &[Shares]) -> Result<Vec<u64>, NoMemory>
 }
 
 /// Reads the text of a circuit's file, and drops it.
-fn circuit_of<'a>(alloc: Global, name: &'a str, text: Vec<u8>) -> Result<Mixed, Refusal<'a>>
+fn circuit_of<'a>(
+    alloc: Global,
+    name: &'a str,
+    bristol: Option<BristolWords>,
+    text: Vec<u8>,
+) -> Result<Circuit, Refusal<'a>>
     requires { length text.items ≤ most_file_bytes }
-    ensures ok { IfOk result (λ circuit. Reads text.items circuit) }
+    ensures ok { IfOk result (λ circuit. Reads (option_map bristol_of bristol) text.items (circuit_of circuit)) }
     ensures err { IfErr result (λ refusal.
-        ((fault : Fault CircuitCause) × FirstFault text.items fault.line fault.cause
+        ((fault : Fault CircuitFault)
+        × FirstFault (option_map bristol_of bristol) text.items fault.line fault.cause
         × (outcome_of refusal
         ≡ circuit_refused name.entry.now (at_line fault.line (circuit_cause fault.cause))))
         ⊎ (outcome_of refusal ≡ memory)) }
 {
-    match read_mixed(alloc, text.as_slice()) {
+    match read_circuit(alloc, bristol, text.as_slice()) {
         Ok(circuit) => Ok(circuit),
-        Err(CircuitError::At { line, cause }) => Err(Refusal::Circuit { name, line, cause }),
-        Err(CircuitError::NoMemory) => Err(Refusal::Memory),
+        Err(ReadError::At { line, cause }) => Err(Refusal::Circuit { name, line, cause }),
+        Err(ReadError::NoMemory) => Err(Refusal::Memory),
     }
 }
 
@@ -211,15 +267,15 @@ fn circuit_of<'a>(alloc: Global, name: &'a str, text: Vec<u8>) -> Result<Mixed, 
 fn values_of<'a>(
     alloc: Global,
     name: &'a str,
-    circuit: &Mixed,
+    circuit: &Circuit,
     text: Vec<u8>,
 ) -> Result<Values, Refusal<'a>>
     requires { length text.items ≤ most_file_bytes }
-    ensures ok { IfOk result (λ read. ReadsValues (inputs_of circuit.now.statements) None text.items read) }
-    ensures widths { IfOk result (λ read. HaveWidths None (inputs_of circuit.now.statements) read) }
+    ensures ok { IfOk result (λ read. ReadsValues (inputs_of (circuit_of circuit.now)) None text.items read) }
+    ensures widths { IfOk result (λ read. HaveWidths None (inputs_of (circuit_of circuit.now)) read) }
     ensures err { IfErr result (λ refusal.
         ((fault : Fault ValuesCause)
-        × values.FirstFault (inputs_of circuit.now.statements) None text.items fault.line fault.cause
+        × values.FirstFault (inputs_of (circuit_of circuit.now)) None text.items fault.line fault.cause
         × (outcome_of refusal
         ≡ values_refused name.entry.now (at_line fault.line (values_cause fault.cause))))
         ⊎ (outcome_of refusal ≡ memory)) }

@@ -1,6 +1,7 @@
 //! What the program does with its words.
 #![tactic(auto)]
 
+mod circuit;
 mod commands;
 mod deal;
 mod end;

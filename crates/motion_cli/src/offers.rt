@@ -1,6 +1,6 @@
 ghost use Rattle.motion_cli.specs.Words.{AreRun};
 
-use cli_words::{Command, Offer};
+use cli_words::{Command, Offer, OptionName};
 
 /// The commands that the program runs, each with those of its options that it runs.
 pub(crate) fn offers() -> &'static [Offer]
@@ -9,11 +9,11 @@ pub(crate) fn offers() -> &'static [Offer]
     &[
         Offer {
             command: Command::Plain,
-            options: &[],
+            options: &[OptionName::As, OptionName::Parties],
         },
         Offer {
             command: Command::Needs,
-            options: &[],
+            options: &[OptionName::As, OptionName::Parties],
         },
         Offer {
             command: Command::Deal,

@@ -1,9 +1,11 @@
 ghost use Rattle.std.specs.Prelude.{◌≡◌, codes, IfOk, string_bytes};
 ghost use Rattle.motion_cli.specs.Outcome.{line, about};
 ghost use Rattle.motion_cli.specs.Parts.{part_name};
-ghost use Rattle.motion_cli.specs.Refusal.{status_of, line_of, cause_of, circuit_cause, values_cause};
+ghost use Rattle.motion_cli.specs.Refusal.{status_of, line_of, cause_of, mixed_cause, bristol_cause, circuit_cause, values_cause};
 
+use crate::circuit::CircuitFault;
 use crate::status::Status;
+use bristol_reader::BristolCause;
 use circuit_values::ValuesCause;
 use cli_words::WordsError;
 use mixed_circuit::CircuitCause;
@@ -19,7 +21,7 @@ pub enum Refusal<'a> {
     Circuit {
         name: &'a str,
         line: u32,
-        cause: CircuitCause,
+        cause: CircuitFault,
     },
     /// The circuit of this name is not built.
     NotBuilt {
@@ -76,8 +78,18 @@ impl FileCause {
 }
 
 /// The name of a cause in a circuit's text.
-fn circuit_word(cause: CircuitCause) -> &'static str
+fn circuit_word(cause: CircuitFault) -> &'static str
     ensures { result.now ≡ circuit_cause cause }
+{
+    match cause {
+        CircuitFault::Mixed(cause) => mixed_word(cause),
+        CircuitFault::Bristol(cause) => bristol_word(cause),
+    }
+}
+
+/// The name of a cause in the text of a mixed circuit.
+fn mixed_word(cause: CircuitCause) -> &'static str
+    ensures { result.now ≡ mixed_cause cause }
 {
     match cause {
         CircuitCause::NotText => "NotText",
@@ -90,6 +102,25 @@ fn circuit_word(cause: CircuitCause) -> &'static str
         CircuitCause::BadNumber => "BadNumber",
         CircuitCause::BadParty => "BadParty",
         CircuitCause::TooMany => "TooMany",
+    }
+}
+
+/// The name of a cause in a text in Bristol Fashion.
+fn bristol_word(cause: BristolCause) -> &'static str
+    ensures { result.now ≡ bristol_cause cause }
+{
+    match cause {
+        BristolCause::NotText => "NotText",
+        BristolCause::Header => "Header",
+        BristolCause::Counts => "Counts",
+        BristolCause::GateName => "GateName",
+        BristolCause::Arity => "Arity",
+        BristolCause::WireRange => "WireRange",
+        BristolCause::UsedBeforeSet => "UsedBeforeSet",
+        BristolCause::SetTwice => "SetTwice",
+        BristolCause::OutputUnset => "OutputUnset",
+        BristolCause::Leftover => "Leftover",
+        BristolCause::TooMany => "TooMany",
     }
 }
 

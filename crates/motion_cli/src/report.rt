@@ -1,7 +1,8 @@
-ghost use Rattle.std.specs.Prelude.{◌≡◌, ◌<◌, ◌≤◌, ◌++◌, All, length, slice_get, [], IfOk, IfSome, OnOk, string_bytes, if◌then◌else◌};
-ghost use Rattle.mot_base.specs.Limits.{most_width};
+ghost use Rattle.std.specs.Prelude.{◌≡◌, ◌<◌, ◌+◌, ◌/◌, ◌++◌, length, take, slice_get, [], false, IfOk, IfSome, OnOk, string_bytes, if◌then◌else◌};
+ghost use Rattle.std.specs.Fmt.{digits};
+ghost use Rattle.share_types.specs.Bits.{number};
 ghost use Rattle.circuit_values.specs.Table.{is_receiver};
-ghost use Rattle.motion_cli.specs.Report.{output_line, output_lines, told_to, party_report, parties_report, needs_lines, needs_report};
+ghost use Rattle.motion_cli.specs.Report.{hexadecimal_digits, AreShort, output_line, output_lines, told_to, party_report, parties_report, needs_lines, needs_report};
 
 use circuit_values::{Outputs, Receiver, number_of};
 use gate_plan::Plan;
@@ -15,6 +16,8 @@ use std::fmt::Write;
 pub enum Notation {
     /// In decimal digits.
     Decimal,
+    /// As `0x` and a lower-case hexadecimal digit for each four bits.
+    Hexadecimal,
 }
 
 /// The report of all outputs, whoever is told them.
@@ -23,7 +26,7 @@ pub(crate) fn report_all(
     notation: Notation,
     outputs: &Outputs,
 ) -> Result<String, NoMemory>
-    requires { All (λ t. length t.bits ≤ most_width) outputs.now }
+    requires { AreShort notation outputs.now }
     ensures { IfOk result (λ text. string_bytes text ≡ output_lines notation outputs.now) }
 {
     let mut text = String::new(alloc);
@@ -40,7 +43,7 @@ pub(crate) fn report_parties(
     outputs: &Outputs,
     parties: u8,
 ) -> Result<String, NoMemory>
-    requires { All (λ t. length t.bits ≤ most_width) outputs.now }
+    requires { AreShort notation outputs.now }
     ensures { IfOk result (λ text. string_bytes text ≡ parties_report notation outputs.now parties) }
 {
     let mut text = String::new(alloc);
@@ -77,7 +80,7 @@ fn push_party(
     outputs: &Outputs,
     party: Party,
 ) -> Result<(), AllocError>
-    requires { All (λ t. length t.bits ≤ most_width) outputs.now }
+    requires { AreShort notation outputs.now }
     ensures { OnOk result
         (string_bytes text.new ≡ string_bytes text.old ++ party_report notation outputs.now party.0) }
 {
@@ -93,7 +96,7 @@ fn push_told(
     outputs: &Outputs,
     party: Party,
 ) -> Result<(), AllocError>
-    requires { All (λ t. length t.bits ≤ most_width) outputs.now }
+    requires { AreShort notation outputs.now }
     ensures { OnOk result
         (string_bytes text.new
         ≡ string_bytes text.old ++ output_lines notation (told_to party.0 outputs.now)) }
@@ -113,7 +116,7 @@ fn push_if_told(
     party: Party,
 ) -> Result<(), AllocError>
     requires at { at < length outputs.now }
-    requires width { All (λ t. length t.bits ≤ most_width) outputs.now }
+    requires width { AreShort notation outputs.now }
     ensures { OnOk result (IfSome (slice_get outputs.now at) (λ output.
         string_bytes text.new
         ≡ string_bytes text.old
@@ -144,12 +147,57 @@ fn push_output(
     at: u32,
 ) -> Result<(), AllocError>
     requires at { at < length outputs.now }
-    requires width { All (λ t. length t.bits ≤ most_width) outputs.now }
+    requires width { AreShort notation outputs.now }
     ensures { OnOk result (IfSome (slice_get outputs.now at) (λ output.
         string_bytes text.new ≡ string_bytes text.old ++ output_line notation output)) }
 {
+    match notation {
+        Notation::Decimal => push_decimal(text, outputs, at),
+        Notation::Hexadecimal => push_hexadecimal(text, outputs, at),
+    }
+}
+
+/// Adds the line of an output, whose value is written in decimal digits.
+fn push_decimal(text: &mut String, outputs: &Outputs, at: u32) -> Result<(), AllocError>
+    requires at { at < length outputs.now }
+    requires width { AreShort Notation.Decimal outputs.now }
+    ensures { OnOk result (IfSome (slice_get outputs.now at) (λ output.
+        string_bytes text.new ≡ string_bytes text.old ++ output_line Notation.Decimal output)) }
+{
     let name = outputs.name(at);
-    let Notation::Decimal = notation;
     let value = number_of(outputs.bits(at));
     write!(text, "{name} = {value}\n")
+}
+
+/// Adds the line of an output, whose value is written in hexadecimal digits.
+fn push_hexadecimal(text: &mut String, outputs: &Outputs, at: u32) -> Result<(), AllocError>
+    requires at { at < length outputs.now }
+    ensures { OnOk result (IfSome (slice_get outputs.now at) (λ output.
+        string_bytes text.new ≡ string_bytes text.old ++ output_line Notation.Hexadecimal output)) }
+{
+    let name = outputs.name(at);
+    write!(text, "{name} = 0x")?;
+    push_digits(text, outputs.bits(at))?;
+    text.push_str("\n")
+}
+
+/// Adds bits as hexadecimal digits, one for each four bits, the highest digit first.
+fn push_digits(text: &mut String, bits: &[bool]) -> Result<(), AllocError>
+    ensures { OnOk result (string_bytes text.new
+        ≡ string_bytes text.old ++ hexadecimal_digits ((length bits.now + 3) / 4) bits.now) }
+{
+    let count = bits.len().div_ceil(4);
+    for at in 0..count {
+        push_digit(text, &bits[4 * (count - 1 - at)..])?;
+    }
+    Ok(())
+}
+
+/// Adds the digit of the first four bits, or of all where there are fewer.
+fn push_digit(text: &mut String, bits: &[bool]) -> Result<(), AllocError>
+    ensures { OnOk result (string_bytes text.new
+        ≡ string_bytes text.old ++ digits 16 false (number (take 4 bits.now))) }
+{
+    let digit = number_of(&bits[..bits.len().min(4)]);
+    write!(text, "{digit:x}")
 }

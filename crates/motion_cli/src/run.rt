@@ -6,7 +6,7 @@ ghost use Rattle.arithmetic_gmw.specs.Laws.{IsTriple};
 ghost use Rattle.mixed_circuit.specs.Circuit.{Statement, shape_of};
 ghost use Rattle.mixed_circuit.specs.Said.{AreEarlier};
 ghost use Rattle.mixed_circuit.specs.Eval.{inputs_taken, value_made, seen_of, IsEvaluated};
-ghost use Rattle.motion_cli.specs.Run.{is_run, is_built, triples_taken, word_of_shares, input_shares, each_by_itself, left_opened, right_opened, product_shares, shares_made, given_to, IsRun};
+ghost use Rattle.motion_cli.specs.Run.{is_run, is_built, run_parties, triples_taken, word_of_shares, input_shares, each_by_itself, left_opened, right_opened, product_shares, shares_made, given_to, IsRun};
 
 use crate::deal::{DEALER, DealtTriple, dealt_triple};
 use arithmetic_gmw::{add, mul_close, mul_open, share_out, sub};
@@ -137,7 +137,7 @@ fn shares_of(
     requires gate { gate < most_gates }
     requires run { is_run (shape_of form) ≡ true }
     requires operands { AreEarlier (length before.now) (shape_of form).operands }
-    requires party { IfSome (shape_of form).party (λ party. party < 2) }
+    requires party { IfSome (shape_of form).party (λ party. party < run_parties) }
     ensures shares { IfOk result (λ s.
         s ≡ shares_made (shape_of form).operation
         (given_to (shape_of form) seed.now.0 gate triple input before.now)) }
@@ -167,7 +167,7 @@ fn shared_input(
     owner: Party,
 ) -> Result<Shares, NoMemory>
     requires gate { gate < most_gates }
-    requires owner { owner.0 < 2 }
+    requires owner { owner.0 < run_parties }
     ensures shares { IfOk result (λ s. s ≡ input_shares seed.now.0 gate owner.0 input) }
     ensures value { IfOk result (λ s. word_of_shares s ≡ input) }
 {

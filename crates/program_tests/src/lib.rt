@@ -2,6 +2,8 @@
 #![tactic(auto)]
 
 #[cfg(test)]
+mod bristol;
+#[cfg(test)]
 mod deals;
 #[cfg(test)]
 mod machine;

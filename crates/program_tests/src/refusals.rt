@@ -26,7 +26,7 @@ static FILES: [(&str, &str); 10] = [
     ),
 ];
 
-static WORDS: [&[&str]; 36] = [
+static WORDS: [&[&str]; 40] = [
     &[],
     &["plain"],
     &["plain", "product"],
@@ -73,7 +73,7 @@ static WORDS: [&[&str]; 36] = [
     &["plain", "product", "--", ""],
     &["plain", "product", "both", "--", "--"],
     // options that are not run with the command, or with none
-    &["plain", "product", "both", "--as=B", "--parties", "2"],
+    &["local", "product", "both", SEED, "--as=B", "--parties", "2"],
     &[
         "plain",
         "product",
@@ -83,6 +83,11 @@ static WORDS: [&[&str]; 36] = [
         "--parties",
         "2",
     ],
+    // an option that comes without the other, and values that are none
+    &["plain", "product", "both", "--as=B"],
+    &["needs", "product", "--parties=2"],
+    &["needs", "product", "--as=A", "--parties=2"],
+    &["needs", "product", "--as=Y", "--parties=9"],
     &["plain", "product", "both", "--par", "2"],
     &["--as=B", "plain", "product", "both", "--parties", "2"],
     &["local", "product", "both", SEED, "--dealer", "d"],

@@ -1,0 +1,94 @@
+-- A circuit as a command meets it: a mixed one, or one in Bristol Fashion, whose words say how its wires are shared and
+-- for how many parties.
+use Rattle.std.specs.Prelude.{ℕ, ◌≡◌, Bool, true, false, List, Option, Some, None}
+use Rattle.share_types.specs.declared.sharing.Sharing.{Sharing}
+use Rattle.share_types.specs.declared.sharing.Sharing.TheVariants as share
+use Rattle.cli_words.specs.declared.table.Sharing as word
+use Rattle.cli_words.specs.declared.table.Sharing.TheVariants.{B, Y}
+use Rattle.cli_words.specs.Request.{Bristol, bristol_of}
+use Rattle.circuit_values.specs.Table.{Input, Told}
+use Rattle.mixed_circuit.specs.Circuit as mixed
+use Rattle.mixed_circuit.specs.Grammar as mixed_text
+use Rattle.mixed_circuit.specs.Table as mixed_table
+use Rattle.mixed_circuit.specs.Eval as mixed_eval
+use Rattle.bristol_reader.specs.Circuit as bristol
+use Rattle.bristol_reader.specs.Grammar as bristol_text
+use Rattle.bristol_reader.specs.Table as bristol_table
+use Rattle.bristol_reader.specs.Eval as bristol_eval
+use Rattle.gate_plan.specs.Plan.{Gates}
+use Rattle.gate_plan.specs.Lowering.{all_gates, all_built, lowered}
+use Rattle.gate_plan.specs.Bristol.{are_keys, all_bristol_gates, bristol_lowered}
+use Rattle.text_lines.specs.Text.{Text}
+use Rattle.motion_cli.specs.declared.circuit.Circuit.{Circuit as CircuitInMemory}
+use Rattle.motion_cli.specs.declared.circuit.Circuit.TheVariants as code
+use Rattle.motion_cli.specs.declared.circuit.CircuitFault.{CircuitFault}
+use Rattle.motion_cli.specs.declared.circuit.CircuitFault.TheVariants as fault
+use Rattle.motion_cli.specs.declared.circuit.ReadError.{ReadError}
+use Rattle.motion_cli.specs.declared.circuit.ReadError.TheVariants.{At, NoMemory}
+use Rattle.motion_cli.specs.declared.report.Notation.{Notation}
+use Rattle.motion_cli.specs.declared.report.Notation.TheVariants.{Decimal, Hexadecimal}
+
+pub data Circuit : Type 0 where
+  Mixed : mixed.Circuit → Circuit
+  InBristol : Bristol → bristol.Circuit → Circuit
+
+-- what the code keeps of it
+abbrev pub circuit_of : CircuitInMemory → Circuit
+circuit_of (code.Mixed c) = Mixed c
+circuit_of (code.Bristol c words) = InBristol (bristol_of words) c
+
+-- a text reads as this circuit, where the words say which language it is in
+abbrev pub Reads : Option Bristol → Text → Circuit → Type 0
+Reads None text (Mixed c) = mixed_text.Reads text c
+Reads (Some b) text (InBristol words c) = (words ≡ b) × bristol_text.Reads text c
+Reads _ text _ = ⊥
+
+-- the first line of a text that shows a cause, and the first cause of that line
+abbrev pub FirstFault : Option Bristol → Text → ℕ → CircuitFault → Type 0
+FirstFault None text line (fault.Mixed cause) = mixed_text.FirstFault text line cause
+FirstFault (Some b) text line (fault.Bristol cause) = bristol_text.FirstFault text line cause
+FirstFault _ text line _ = ⊥
+
+-- an error is the first fault of a text, or memory ran out
+abbrev pub IsFirstFault : Option Bristol → Text → ReadError → Type 0
+IsFirstFault bristol text (At line cause) = FirstFault bristol text line cause
+IsFirstFault bristol text NoMemory = Unit {0}
+
+-- the input values of a circuit, with the party of each
+abbrev pub inputs_of : Circuit → List Input
+inputs_of (Mixed c) = mixed_table.inputs_of c.statements
+inputs_of (InBristol b c) = bristol_table.inputs_of b.parties c
+
+-- how the wires of a circuit in Bristol Fashion are shared
+abbrev pub sharing_of : word.Sharing → Sharing
+sharing_of B = share.B
+sharing_of Y = share.Y
+
+-- how many gates a circuit has
+abbrev pub gates_of : Circuit → ℕ
+gates_of (Mixed c) = all_gates c
+gates_of (InBristol b c) = all_bristol_gates (are_keys (sharing_of b.sharing)) c
+
+-- whether its plan is built
+abbrev pub is_shared_by_xor : word.Sharing → Bool
+is_shared_by_xor B = true
+is_shared_by_xor Y = false
+
+abbrev pub is_built : Circuit → Bool
+is_built (Mixed c) = all_built c
+is_built (InBristol b c) = is_shared_by_xor b.sharing
+
+-- the plan of a circuit that is built
+abbrev pub plan_of : Circuit → Gates
+plan_of (Mixed c) = lowered c
+plan_of (InBristol b c) = bristol_lowered b.parties c
+
+-- outputs are those of the plain evaluation of a circuit on the bits of its input values
+abbrev pub IsPlain : Circuit → List (List Bool) → List Told → Type 0
+IsPlain (Mixed c) v outputs = mixed_eval.IsPlain c v outputs
+IsPlain (InBristol b c) v outputs = bristol_eval.IsPlain c v outputs
+
+-- how the values of its outputs are written
+abbrev pub notation_of : Circuit → Notation
+notation_of (Mixed c) = Decimal
+notation_of (InBristol b c) = Hexadecimal

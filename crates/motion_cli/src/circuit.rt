@@ -1,0 +1,165 @@
+//! Circuits of both languages, as the commands meet them.
+
+ghost use Rattle.std.specs.Prelude.{◌≡◌, ◌<◌, ◌≤◌, ◌↔◌, ℕ, length, true, false, None, option_map, IfOk, IfErr, IsErrOf};
+ghost use Rattle.mot_base.specs.Limits.{most_file_bytes, most_gates};
+ghost use Rattle.cli_words.specs.Request.{bristol_of};
+ghost use Rattle.circuit_values.specs.Table.{AreNamedApart};
+ghost use Rattle.circuit_values.specs.Values.{HaveWidths};
+ghost use Rattle.motion_cli.specs.Circuits.{circuit_of, Reads, FirstFault, IsFirstFault, inputs_of, sharing_of, gates_of, is_built, plan_of, IsPlain, notation_of};
+ghost use Rattle.motion_cli.specs.Report.{AreShort};
+
+use crate::report::Notation;
+use bristol_reader::{Bristol, BristolCause, BristolError, plain_bristol, read_bristol};
+use circuit_values::{InputTable, Outputs, Values};
+use cli_words::BristolWords;
+use gate_plan::{
+    Plan, PlanError, lower_bristol, lower_mixed, lowered_bristol_gates, lowered_gates,
+};
+use mixed_circuit::{CircuitCause, CircuitError, Mixed, plain, read_mixed};
+use mot_base::NoMemory;
+use share_types::Sharing;
+use std::alloc::Global;
+
+/// A circuit that a command reads.
+#[derive(Debug, Drop)]
+pub(crate) enum Circuit {
+    /// A mixed circuit.
+    Mixed(Mixed),
+    /// A circuit in Bristol Fashion, and how its wires are shared among how many parties.
+    Bristol(Bristol, BristolWords),
+}
+
+/// What is wrong with a line of a circuit's text, by its language.
+#[derive(Clone, Copy, Debug, PartialEq, Eq)]
+pub enum CircuitFault {
+    Mixed(CircuitCause),
+    Bristol(BristolCause),
+}
+
+/// Why a text was not read as a circuit.
+#[derive(Clone, Copy, Debug, PartialEq, Eq)]
+pub(crate) enum ReadError {
+    /// The first line that shows a cause, and the first cause of that line.
+    At { line: u32, cause: CircuitFault },
+    /// Memory ran out.
+    NoMemory,
+}
+
+/// Reads a text as a circuit, in Bristol Fashion where the words say so, and as a mixed one else.
+pub(crate) fn read_circuit(
+    alloc: Global,
+    bristol: Option<BristolWords>,
+    text: &[u8],
+) -> Result<Circuit, ReadError>
+    requires { length text.now ≤ most_file_bytes }
+    ensures ok { IfOk result (λ circuit. Reads (option_map bristol_of bristol) text.now (circuit_of circuit)) }
+    ensures at { IfErr result (λ error. IsFirstFault (option_map bristol_of bristol) text.now error) }
+{
+    match bristol {
+        None => read_as_mixed(alloc, text),
+        Some(words) => read_as_bristol(alloc, words, text),
+    }
+}
+
+fn read_as_mixed(alloc: Global, text: &[u8]) -> Result<Circuit, ReadError>
+    requires { length text.now ≤ most_file_bytes }
+    ensures ok { IfOk result (λ circuit. Reads None text.now (circuit_of circuit)) }
+    ensures at { IfErr result (λ error. IsFirstFault None text.now error) }
+{
+    match read_mixed(alloc, text) {
+        Ok(circuit) => Ok(Circuit::Mixed(circuit)),
+        Err(CircuitError::At { line, cause }) => Err(ReadError::At {
+            line,
+            cause: CircuitFault::Mixed(cause),
+        }),
+        Err(CircuitError::NoMemory) => Err(ReadError::NoMemory),
+    }
+}
+
+fn read_as_bristol(alloc: Global, words: BristolWords, text: &[u8]) -> Result<Circuit, ReadError>
+    requires { length text.now ≤ most_file_bytes }
+    ensures ok { IfOk result (λ circuit. Reads (Some (bristol_of words)) text.now (circuit_of circuit)) }
+    ensures at { IfErr result (λ error. IsFirstFault (Some (bristol_of words)) text.now error) }
+{
+    match read_bristol(alloc, text) {
+        Ok(circuit) => Ok(Circuit::Bristol(circuit, words)),
+        Err(BristolError::At { line, cause }) => Err(ReadError::At {
+            line,
+            cause: CircuitFault::Bristol(cause),
+        }),
+        Err(BristolError::NoMemory) => Err(ReadError::NoMemory),
+    }
+}
+
+impl Circuit {
+    /// The input values, with the party of each.
+    pub(crate) fn inputs(&self, alloc: Global) -> Result<InputTable, NoMemory>
+        ensures value { IfOk result (λ table. table ≡ inputs_of (circuit_of self.now)) }
+        ensures apart { IfOk result (λ table. AreNamedApart table) }
+    {
+        match self {
+            Circuit::Mixed(circuit) => circuit.inputs(alloc),
+            Circuit::Bristol(circuit, words) => circuit.inputs(alloc, words.parties),
+        }
+    }
+
+    /// How many gates the circuit has, whether its plan is built or not.
+    pub(crate) fn gates(&self) -> u64
+        ensures { result ≡ gates_of (circuit_of self.now) }
+    {
+        match self {
+            Circuit::Mixed(circuit) => lowered_gates(circuit),
+            Circuit::Bristol(circuit, words) => {
+                lowered_bristol_gates(circuit, sharing_of(words.sharing))
+            }
+        }
+    }
+
+    /// The plan of the circuit. `NotBuilt` comes before `TooManyGates`.
+    pub(crate) fn plan(&self, alloc: Global) -> Result<Plan, PlanError>
+        ensures plan { IfOk result (λ plan. plan ≡ plan_of (circuit_of self.now)) }
+        ensures not_built { IsErrOf result PlanError.NotBuilt ↔ (is_built (circuit_of self.now) ≡ false) }
+        ensures too_many { (gates : ℕ) → IsErrOf result (PlanError.TooManyGates gates) ↔
+            ((is_built (circuit_of self.now) ≡ true) × (most_gates < gates_of (circuit_of self.now))
+            × (gates ≡ gates_of (circuit_of self.now))) }
+    {
+        match self {
+            Circuit::Mixed(circuit) => lower_mixed(alloc, circuit),
+            Circuit::Bristol(circuit, words) => {
+                lower_bristol(alloc, circuit, words.parties, sharing_of(words.sharing))
+            }
+        }
+    }
+
+    /// The outputs of the plain evaluation on the values of all inputs.
+    pub(crate) fn evaluate(&self, alloc: Global, values: &Values) -> Result<Outputs, NoMemory>
+        requires { HaveWidths None (inputs_of (circuit_of self.now)) values.now }
+        ensures plain { IfOk result (λ outputs. IsPlain (circuit_of self.now) values.now outputs) }
+        ensures short { IfOk result (λ outputs. AreShort (notation_of (circuit_of self.now)) outputs) }
+    {
+        match self {
+            Circuit::Mixed(circuit) => plain(alloc, circuit, values),
+            Circuit::Bristol(circuit, _) => plain_bristol(alloc, circuit, values),
+        }
+    }
+
+    /// How the values of the outputs are written.
+    pub(crate) fn notation(&self) -> Notation
+        ensures { result ≡ notation_of (circuit_of self.now) }
+    {
+        match self {
+            Circuit::Mixed(_) => Notation::Decimal,
+            Circuit::Bristol(..) => Notation::Hexadecimal,
+        }
+    }
+}
+
+/// How the wires of a circuit in Bristol Fashion are shared.
+fn sharing_of(sharing: cli_words::Sharing) -> Sharing
+    ensures { result ≡ sharing_of sharing }
+{
+    match sharing {
+        cli_words::Sharing::B => Sharing::B,
+        cli_words::Sharing::Y => Sharing::Y,
+    }
+}

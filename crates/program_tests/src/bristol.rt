@@ -1,0 +1,160 @@
+//! Circuits in Bristol Fashion, as the commands meet them.
+use crate::machine::Machine;
+use std::test::Fail;
+
+const AND: &str = "1 3\n2 1 1\n1 1\n\n2 1 0 1 2 AND\n";
+
+/// A constant, a copy, two ANDs in one gate and a sum, with tabs, ends of other lines, and blank lines anywhere.
+const KINDS: &str =
+    "\n4\t9\r\n\n1 4\n \n1 3\n1 1 1 4 EQ\n\t1 1 0 5 EQW\n\n4 2 2 3 4 5 6 7 MAND \n2 1 6 7 8 XOR\n\n";
+
+/// A circuit whose outputs are its inputs.
+const SAME: &str = "0 68\n1 68\n3 1 5 62\n";
+
+/// Circuits, values, and what is printed of their outputs, whichever way wires are shared.
+static OUTPUTS: [(&str, &str, &str); 9] = [
+    (AND, "in0 = 0\nin1 = 0\n", "out0 = 0x0\n"),
+    (AND, "in0 = 0\nin1 = 1\n", "out0 = 0x0\n"),
+    (AND, "in0 = 1\nin1 = 0\n", "out0 = 0x0\n"),
+    (AND, "in1 = 0x1\nin0 = 1\n", "out0 = 0x1\n"),
+    (KINDS, "in0 = 0x9\n", "out0 = 0x6\n"),
+    (KINDS, "in0 = 0xd\n", "out0 = 0x3\n"),
+    (
+        SAME,
+        "in0 = 0x0\n",
+        "out0 = 0x0\nout1 = 0x00\nout2 = 0x0000000000000000\n",
+    ),
+    (
+        SAME,
+        "in0 = 0xabcdef0123456789a\n",
+        "out0 = 0x0\nout1 = 0x0d\nout2 = 0x2af37bc048d159e2\n",
+    ),
+    ("0 1\n1 1\n0\n", "in0 = 1\n", ""),
+];
+
+#[test]
+fn the_last_wires_are_printed(rt: HostRuntime) -> Result<(), Fail> {
+    for (circuit, values, printed) in &OUTPUTS {
+        let files = [("c", *circuit), ("v", *values)];
+        let machine = Machine::new(files.as_slice());
+        let by_bits = machine.run(
+            rt.alloc(),
+            &["plain", "c", "v", "--as", "B", "--parties", "2"],
+        )?;
+        assert_eq!(rt; by_bits.written(), printed.as_bytes(), "{circuit:?}");
+        assert_eq!(rt; by_bits.status, 0, "{circuit:?}");
+        let by_keys = machine.run_plain(rt.alloc(), &["--parties=8", "--as=Y", "c", "v"])?;
+        assert_eq!(rt; by_keys.written(), printed.as_bytes(), "{circuit:?}");
+        assert_eq!(rt; by_keys.status, 0, "{circuit:?}");
+    }
+    Ok(())
+}
+
+struct Row {
+    words: &'static [&'static str],
+    circuit: &'static str,
+    values: &'static str,
+    printed: &'static str,
+    status: u8,
+}
+
+static ROWS: [Row; 12] = [
+    Row {
+        words: &["needs", "c", "--as", "B", "--parties", "2"],
+        circuit: AND,
+        values: "",
+        printed: "gates 4\nmult 0\nbit 1\nshared 0\nkey 0\n",
+        status: 0,
+    },
+    Row {
+        words: &["needs", "c", "--as", "Y", "--parties", "2"],
+        circuit: AND,
+        values: "",
+        printed: "circuit c: not built\n",
+        status: 2,
+    },
+    Row {
+        words: &["needs", "--as=B", "--", "c"],
+        circuit: AND,
+        values: "",
+        printed: "usage\n",
+        status: 1,
+    },
+    Row {
+        words: &["needs", "--as=B", "--parties=3", "c"],
+        circuit: KINDS,
+        values: "",
+        printed: "gates 11\nmult 0\nbit 2\nshared 0\nkey 0\n",
+        status: 0,
+    },
+    // causes, in the order of the files
+    Row {
+        words: &["plain", "c", "v", "--as", "B", "--parties", "2"],
+        circuit: "2 4\n2 1 1\n1 1\n\n2 1 0 3 2 AND\n2 1 0 1 3 XOR\n",
+        values: "",
+        printed: "circuit c: line 5: UsedBeforeSet\n",
+        status: 2,
+    },
+    Row {
+        words: &["needs", "c", "--as", "Y", "--parties", "2"],
+        circuit: "1 3\n2 1 1\n1 1\n2 1 0 1 2 NAND\n",
+        values: "",
+        printed: "circuit c: line 4: GateName\n",
+        status: 2,
+    },
+    Row {
+        words: &["plain", "c", "v", "--as", "B", "--parties", "2"],
+        circuit: AND,
+        values: "in0 = 1\nin1 = 2\n",
+        printed: "values v: line 2: TooWide\n",
+        status: 3,
+    },
+    Row {
+        words: &["plain", "c", "v", "--as", "B", "--parties", "2"],
+        circuit: AND,
+        values: "in0 = 1\n",
+        printed: "values v: line 1: Missing\n",
+        status: 3,
+    },
+    // the words say which language a circuit is in
+    Row {
+        words: &["plain", "c", "v"],
+        circuit: AND,
+        values: "in0 = 1\n",
+        printed: "circuit c: line 1: Header\n",
+        status: 2,
+    },
+    Row {
+        words: &["plain", "c", "v", "--as", "B", "--parties", "2"],
+        circuit: "mixed 1\nparties 2\n",
+        values: "",
+        printed: "circuit c: line 1: Header\n",
+        status: 2,
+    },
+    // two gates for a wire of keys are more than a plan has, and are told before the values
+    Row {
+        words: &["plain", "c", "v", "--as", "Y", "--parties", "2"],
+        circuit: "0 2097153\n1 2097153\n1 1\n",
+        values: "",
+        printed: "circuit c: gates 4194308\n",
+        status: 2,
+    },
+    Row {
+        words: &["needs", "c", "--as", "B", "--parties", "2"],
+        circuit: "0 2097153\n1 2097153\n1 1\n",
+        values: "",
+        printed: "gates 2097154\nmult 0\nbit 0\nshared 0\nkey 0\n",
+        status: 0,
+    },
+];
+
+#[test]
+fn circuits_in_bristol_fashion_are_told_by_the_words(rt: HostRuntime) -> Result<(), Fail> {
+    for row in &ROWS {
+        let files = [("c", row.circuit), ("v", row.values)];
+        let end = Machine::new(files.as_slice()).run(rt.alloc(), row.words)?;
+        assert_eq!(rt; end.written(), row.printed.as_bytes(), "{:?}", row.words);
+        assert_eq!(rt; end.status, row.status, "{:?}", row.words);
+    }
+    Ok(())
+}
