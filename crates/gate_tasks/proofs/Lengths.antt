@@ -34,7 +34,7 @@ vectors-length w (x ∷ vs) =
     more : (a b : ℕ) → b + a * b ≡ suc a * b
     more a b = omega arith
 
-turned : (a b : ℕ) → (a == b) ≡ (b == a)
+pub turned : (a b : ℕ) → (a == b) ≡ (b == a)
 turned a b = at (a == b) refl
   where
     at : (c : Bool) → (a == b) ≡ c → (a == b) ≡ (b == a)

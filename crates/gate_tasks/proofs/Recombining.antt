@@ -54,13 +54,13 @@ use Rattle.gate_tasks.proofs.Sums.{sum_mod, sum_plus, sum_times, sum_public, one
 use Rattle.gate_tasks.proofs.Grown.{some_is, got, got_index, there_is, grown-get, map_map, total_is}
 
 -- what stands among the first of a list
-taken : {X : Type 0} (xs : List X) (k i : ℕ) (x : X) → slice_get (take k xs) i ≡ Some x → (i < k) × (slice_get xs i ≡ Some x)
+pub taken : {X : Type 0} (xs : List X) (k i : ℕ) (x : X) → slice_get (take k xs) i ≡ Some x → (i < k) × (slice_get xs i ≡ Some x)
 taken xs zero i x h = cc
 taken [] (suc k) i x h = cc
 taken (y ∷ xs) (suc k) zero x h = (omega arith, h)
 taken (y ∷ xs) (suc k) (suc i) x h = let (less, there) = taken xs k i x h in (omega (arith, less), there)
 
-two : (n p q : ℕ) → p < n → q < n → (p ≡ q → ⊥) → are_two n p q ≡ true
+pub two : (n p q : ℕ) → p < n → q < n → (p ≡ q → ⊥) → are_two n p q ≡ true
 two n p q a b apart = rw (lt-ltb p n a, lt-ltb q n b, ne_eqb p q apart) refl
 
 -- ---- sums of shares
@@ -107,13 +107,13 @@ public (suc m) c h = sum_public m c
 cut : (v w : ℕ) → w ≡ 64 → v % 2 ^ w % 2 ^ 64 ≡ v % 2 ^ 64
 cut v w e = ap (λ k. v % 2 ^ k % 2 ^ 64) e ∙ omega arith
 
-vector_first : (w x : ℕ) (vs : List ℕ) → x < 2 ^ w → vector_in w (vectors_bytes w (x ∷ vs)) 0 ≡ x
+pub vector_first : (w x : ℕ) (vs : List ℕ) → x < 2 ^ w → vector_in w (vectors_bytes w (x ∷ vs)) 0 ≡ x
 vector_first w x vs small = payloads_read_back.1 w (x ∷ vs) 0 x refl small
 
-vector_second : (w x y : ℕ) (vs : List ℕ) → y < 2 ^ w → vector_in w (vectors_bytes w (x ∷ y ∷ vs)) 1 ≡ y
+pub vector_second : (w x y : ℕ) (vs : List ℕ) → y < 2 ^ w → vector_in w (vectors_bytes w (x ∷ y ∷ vs)) 1 ≡ y
 vector_second w x y vs small = payloads_read_back.1 w (x ∷ y ∷ vs) 1 y refl small
 
-choose : (w : ℕ) (b : Bool) (x y : ℕ) → x < 2 ^ w → y < 2 ^ w → cond b x y < 2 ^ w
+pub choose : (w : ℕ) (b : Bool) (x y : ℕ) → x < 2 ^ w → y < 2 ^ w → cond b x y < 2 ^ w
 choose w true x y p q = p
 choose w false x y p q = q
 
@@ -135,17 +135,17 @@ get_or_mapped f [] k d = refl
 get_or_mapped f (x ∷ xs) zero d = refl
 get_or_mapped f (x ∷ xs) (suc k) d = get_or_mapped f xs k d
 
-short_vector : (bit w : ℕ) (rs : List ℕ) → vector_of bit (take w rs) < 2 ^ w
+pub short_vector : (bit w : ℕ) (rs : List ℕ) → vector_of bit (take w rs) < 2 ^ w
 short_vector bit w rs =
     let small = vector-small bit (take w rs) in
     let count = length-take w rs in
     let grows : 2 ^ length (take w rs) ≤ 2 ^ w = pow_mono (omega (arith, count)) in
     omega (arith, small, grows)
 
-and_small : (w a b : ℕ) → a < 2 ^ w → bit_and a b < 2 ^ w
+pub and_small : (w a b : ℕ) → a < 2 ^ w → bit_and a b < 2 ^ w
 and_small w a b small = let less = and_le_l a b in omega (arith, small, less)
 
-join_small : (u v a b : ℕ) → a < 2 ^ u → b < 2 ^ v → a + 2 ^ u * b < 2 ^ (u + v)
+pub join_small : (u v a b : ℕ) → a < 2 ^ u → b < 2 ^ v → a + 2 ^ u * b < 2 ^ (u + v)
 join_small u v a b p q =
     let split : 2 ^ (u + v) ≡ 2 ^ u * 2 ^ v = pow-add 2 u v in
     let room : 2 ^ u * suc b ≤ 2 ^ u * 2 ^ v = mul-le-mul_left (2 ^ u) q in

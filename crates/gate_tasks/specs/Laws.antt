@@ -1,13 +1,14 @@
 -- The laws of a run.
-use Rattle.std.specs.Prelude.{ℕ, ◌≡◌, ◌<◌, ◌%◌, ◌^◌, List, Option, Some, None, slice_get, length}
+use Rattle.std.specs.Prelude.{ℕ, ◌≡◌, false, [], ◌<◌, ◌%◌, ◌^◌, List, Option, Some, None, slice_get, length}
 use Rattle.share_types.specs.declared.needs.Needs.{Needs}
+use Rattle.message_demux.specs.Slots.{has_high_bits}
 use Rattle.gate_plan.specs.Gate.{Gate}
 use Rattle.gate_plan.specs.Plan.{Gates, IsPlan}
 use Rattle.gate_plan.specs.Plain.{plain_before}
 use Rattle.gate_plan.specs.declared.message.Message.{Message}
 use Rattle.gate_plan.specs.Messages.{message}
 use Rattle.gate_tasks.specs.Payload.{word_bytes, word_in, vectors_bytes, vector_in}
-use Rattle.gate_tasks.specs.Party.{Own, party_value}
+use Rattle.gate_tasks.specs.Party.{Own, Inbox, party_value, party_sends}
 use Rattle.gate_tasks.specs.Honest.{own_at, AreHonest, AreInputs, Recombine}
 use Rattle.gate_tasks.specs.Joint.{Payloads, column, IsJoint}
 
@@ -45,3 +46,24 @@ abbrev pub PayloadsHaveTheirLengths : Type 0
 PayloadsHaveTheirLengths =
     (plan : Gates) (owns : List Own) (table : Payloads) → length owns ≡ plan.parties → IsJoint plan owns table →
     (g round from to : ℕ) → length (table g round from to) ≡ length_of (message plan from to g round)
+
+-- and where the plan states one, no vector of the payload has a bit at or above its width
+abbrev pub PayloadsHaveTheirShapes : Type 0
+PayloadsHaveTheirShapes =
+    (plan : Gates) (owns : List Own) (table : Payloads) → IsPlan plan → length owns ≡ plan.parties → IsJoint plan owns table →
+    (g round from to : ℕ) (m : Message) → message plan from to g round ≡ Some m →
+    has_high_bits m.shape (table g round from to) ≡ false
+
+-- a party was sent the payload of a run for each message that the plan states, and else nothing
+pub record Hears (plan : Gates) (table : Payloads) (p : ℕ) (inbox : Inbox) : Type 0 where
+  pub stated : (g round from : ℕ) (m : Message) → message plan from p g round ≡ Some m →
+      inbox g round from ≡ table g round from p
+  pub none : (g round from : ℕ) → message plan from p g round ≡ None → inbox g round from ≡ []
+
+-- a party that hears a joint run has the run's values, and sends the run's payloads
+abbrev pub APartyFollows : Type 0
+APartyFollows =
+    (plan : Gates) (owns : List Own) (table : Payloads) → length owns ≡ plan.parties → IsJoint plan owns table →
+    (p : ℕ) (own : Own) (inbox : Inbox) → slice_get owns p ≡ Some own → Hears plan table p inbox →
+    ((g : ℕ) → party_value plan p own inbox g ≡ party_value plan p own (column table p) g)
+    × ((g round to : ℕ) → party_sends plan p own inbox g round to ≡ table g round p to)

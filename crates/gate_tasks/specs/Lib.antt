@@ -3,3 +3,9 @@ pub mod Party
 pub mod Joint
 pub mod Honest
 pub mod Laws
+pub mod Stage
+pub mod ByValue
+pub mod Sending
+pub mod Wires
+pub mod Task
+pub mod Uses

@@ -1,4 +1,5 @@
-ghost use Rattle.gate_tasks.specs.Laws.{EveryGateRecombines, OneJointRun, PayloadsHaveTheirLengths, PayloadsReadBack};
+ghost use Rattle.gate_tasks.specs.Laws.{APartyFollows, EveryGateRecombines, OneJointRun, PayloadsHaveTheirLengths, PayloadsHaveTheirShapes, PayloadsReadBack};
+ghost use Rattle.gate_tasks.specs.Uses.{UsesNeverMeet};
 
 /// What is read at each place of a payload is what was written there.
 pub fn payloads_read_back()
@@ -16,8 +17,25 @@ pub fn payloads_have_their_lengths()
     ensures { PayloadsHaveTheirLengths }
 {}
 
+/// Where the plan states a message, no vector of its payload in a joint run has a bit at or above its width, whatever
+/// the dealer's parts.
+pub fn payloads_have_their_shapes()
+    ensures { PayloadsHaveTheirShapes }
+{}
+
 /// In a joint run with honest dealer's parts, the parties' values of each gate recombine to the number that the plan
 /// computes there in plain.
 pub fn every_gate_recombines()
     ensures { EveryGateRecombines }
+{}
+
+/// A party that was sent what a joint run sends it, and nothing else, has the run's values and sends the run's payloads.
+pub fn a_party_follows()
+    ensures { APartyFollows }
+{}
+
+/// Two different uses of a party's tape read no place both: the share words of other sessions, gates or receivers stand
+/// elsewhere.
+pub fn tape_uses_never_meet()
+    ensures { UsesNeverMeet }
 {}

@@ -1,0 +1,280 @@
+-- The operands of a gate, and the records that it uses.
+use Rattle.std.proofs.Common.{ℕ, zero, suc, ◌≡◌, ◌<◌, ◌≤◌, ◌+◌, true, List, [], ◌∷◌, length, map, take, get_or, Option, Some, None, refl, sym, ◌∙◌, ap, ap₂, subst, arith}
+use Rattle.std.specs.Prelude.{option_map, slice_get, slice_index_or}
+use Rattle.std.specs.List.{AllByRecursion}
+use Rattle.std.specs.Option.{unwrap_or}
+use Rattle.share_types.specs.declared.bits.Bits.{Bits}
+use Rattle.gate_plan.specs.Gate.{Kind, Gate, Given, Word, Vector, width_at, gives, takes, operands, MulA, SliceB, JoinB, AndB}
+use Rattle.gate_plan.specs.Plan.{Gates, IsPlan, IsOperand, FitWidths}
+use Rattle.gate_plan.specs.Needs.{offset, needs_at, needs_of}
+use Rattle.gate_plan.proofs.MessageLemmas.{gate_there}
+use Rattle.mot_base.specs.Limits.{most_width}
+use Rattle.share_types.specs.declared.needs.Kind.TheVariants.{Bit}
+use Rattle.dealer_files.specs.Part.{Part}
+use Rattle.gate_tasks.specs.declared.own.Own.{Own as OwnInMemory}
+use Rattle.gate_tasks.specs.Honest.{Taken, taken_by}
+use Rattle.gate_tasks.specs.Stage.{taken_from, Serves, AreOperands, IsOf, kind_at, operands_of}
+use Rattle.gate_tasks.specs.ByValue.{takes_of, keeps_width, is_conjunction, is_product, words_heard, vectors_heard}
+use Rattle.gate_tasks.specs.declared.value.Value.{Value as ValueInMemory}
+use Rattle.gate_tasks.specs.declared.value.Value.TheVariants as code
+use Rattle.gate_tasks.proofs.Grown.{some_is, there_is}
+
+by_index : {X : Type 0} (P : X → Type 0) (xs : List X) (i : ℕ) (x : X) → AllByRecursion P xs → slice_get xs i ≡ Some x → P x
+by_index P [] i x all e = cc
+by_index P (y ∷ ys) zero x all e = subst P (some_is y x e) all.0
+by_index P (y ∷ ys) (suc i) x all e = by_index P ys i x all.1 e
+
+taken : {X : Type 0} (xs : List X) (k i : ℕ) (x : X) → slice_get (take k xs) i ≡ Some x → slice_get xs i ≡ Some x
+taken xs zero i x h = cc
+taken [] (suc k) i x h = cc
+taken (y ∷ xs) (suc k) zero x h = h
+taken (y ∷ xs) (suc k) (suc i) x h = taken xs k i x h
+
+mapped : {X Y : Type 0} (f : X → Y) (xs : List X) (i : ℕ) (x : X) → slice_get xs i ≡ Some x → slice_get (map f xs) i ≡ Some (f x)
+mapped f [] i x e = cc
+mapped f (y ∷ ys) zero x e = ap (λ (z : _). Some (f z)) (some_is y x e)
+mapped f (y ∷ ys) (suc i) x e = mapped f ys i x e
+
+-- the gate of an operand
+pub record Used (plan : Gates) (gate : Gate) (x : ℕ) : Type 0 where
+  pub used : Gate
+  pub there : slice_get plan.gates x ≡ Some used
+  pub gives_it : gives used.kind ≡ takes gate.kind
+
+pub used_at : (plan : Gates) (g : ℕ) (gate : Gate) (i x : ℕ) → IsPlan plan → slice_get plan.gates g ≡ Some gate →
+    slice_get (operands gate.kind) i ≡ Some x → Used plan gate x
+used_at plan g gate i x valid here at =
+    let (used, there, is) = by_index (IsOperand (take g plan.gates) (takes gate.kind)) (operands gate.kind) i x (valid.each g gate here).uses at in
+    record { used = used; there = taken plan.gates g x used there; gives_it = is }
+
+-- the value of an operand has its gate's type
+pub typed_at : (plan : Gates) (g : ℕ) (gate : Gate) (wires : List ValueInMemory) (i x : ℕ) (value : ValueInMemory) →
+    (u : Used plan gate x) → AreOperands plan g wires → slice_get plan.gates g ≡ Some gate →
+    slice_get (operands gate.kind) i ≡ Some x → slice_get wires i ≡ Some value → IsOf u.used value
+typed_at plan g gate wires i x value u are here at found =
+    are.types i x u.used value (ap (λ o. slice_get (operands_of (option_map (λ (y : Gate). y.kind) o)) i) here ∙ at) u.there found
+
+word_only : (gate : Gate) (value : ValueInMemory) → gives gate.kind ≡ Word → IsOf gate value → ((w : ℕ) → value ≡ code.A w → ⊥) → ⊥
+word_only gate (code.A w) e is never = never w refl
+word_only gate (code.B v) e is never = let other = sym e ∙ is.0 in cc
+word_only gate (code.Told t) e is never = let other = sym e ∙ is.0 in cc
+
+vector_only : (gate : Gate) (value : ValueInMemory) → gives gate.kind ≡ Vector → IsOf gate value → ((v : _) → value ≡ code.B v → ⊥) → ⊥
+vector_only gate (code.A w) e is never = let other = sym e ∙ is in cc
+vector_only gate (code.B v) e is never = never v refl
+vector_only gate (code.Told t) e is never = let other = sym e ∙ is.0 in cc
+
+module _ (plan : Gates) (g : ℕ) (wires : List ValueInMemory) (valid : IsPlan plan) (are : AreOperands plan g wires) where
+  -- an operand of a gate whose operands are known
+  record Standing (given : Given) (at : ℕ) (value : ValueInMemory) : Type 0 where
+    gate : Gate
+    here : slice_get plan.gates g ≡ Some gate
+    takes_it : takes gate.kind ≡ given
+    x : ℕ
+    operand : slice_get (operands gate.kind) at ≡ Some x
+    use_it : Used plan gate x
+    typed : IsOf use_it.used value
+
+  standing : (given : Given) (at : ℕ) (value : ValueInMemory) → takes_of (kind_at plan.gates g) ≡ Some given →
+      at < length (operands_of (kind_at plan.gates g)) → slice_get wires at ≡ Some value → Standing given at value
+  standing given at value is inside found = by (slice_get plan.gates g) refl
+    where
+      by : (o : Option Gate) → slice_get plan.gates g ≡ o → Standing given at value
+      by None e = let none = ap (λ (p : Option Gate). takes_of (option_map (λ (y : Gate). y.kind) p)) (sym e) ∙ is in cc
+      by (Some gate) e =
+          let within : at < length (operands gate.kind) = subst (λ (p : Option Gate). at < length (operands_of (option_map (λ (y : Gate). y.kind) p))) e inside in
+          let x = get_or (operands gate.kind) at 0 in
+          let there = there_is (operands gate.kind) at 0 within in
+          let u = used_at plan g gate at x valid e there in
+          record {
+            gate = gate;
+            here = e;
+            takes_it = some_is (takes gate.kind) given (ap (λ (p : Option Gate). takes_of (option_map (λ (y : Gate). y.kind) p)) (sym e) ∙ is);
+            x = x;
+            operand = there;
+            use_it = u;
+            typed = typed_at plan g gate wires at x value u are e there found;
+          }
+
+  pub word_there : (at : ℕ) (d : ValueInMemory) → takes_of (kind_at plan.gates g) ≡ Some Word →
+      at < length (operands_of (kind_at plan.gates g)) → ((w : ℕ) → slice_index_or wires at d ≡ code.A w → ⊥) → ⊥
+  word_there at d is inside never =
+      let within : at < length wires = subst (λ n. at < n) (sym are.count) inside in
+      let s = standing Word at (slice_index_or wires at d) is inside (there_is wires at d within) in
+      word_only s.use_it.used (slice_index_or wires at d) (s.use_it.gives_it ∙ s.takes_it) s.typed never
+
+  pub vector_there : (at : ℕ) (d : ValueInMemory) → takes_of (kind_at plan.gates g) ≡ Some Vector →
+      at < length (operands_of (kind_at plan.gates g)) → ((v : _) → slice_index_or wires at d ≡ code.B v → ⊥) → ⊥
+  vector_there at d is inside never =
+      let within : at < length wires = subst (λ n. at < n) (sym are.count) inside in
+      let s = standing Vector at (slice_index_or wires at d) is inside (there_is wires at d within) in
+      vector_only s.use_it.used (slice_index_or wires at d) (s.use_it.gives_it ∙ s.takes_it) s.typed never
+
+-- ---- widths
+
+width_of : (gates : List Gate) (x : ℕ) (gate : Gate) → slice_get gates x ≡ Some gate → width_at gates x ≡ gate.width
+width_of gates x gate e = ap (λ (o : Option Gate). unwrap_or (option_map (λ (y : Gate). y.width) o) 0) e
+
+fit_same : (kind : Kind) (w : ℕ) (ws : List ℕ) → keeps_width (Some kind) ≡ true → FitWidths kind w ws → AllByRecursion (λ v. v ≡ w) ws
+fit_same (SliceB x at) w ws e fit = cc
+fit_same (JoinB x y) w ws e fit = cc
+fit_same _ w ws e fit = fit
+
+-- an operand of a gate that keeps its width is as wide
+pub same_width : (plan : Gates) (g : ℕ) (kind : Kind) (i x : ℕ) → IsPlan plan → kind_at plan.gates g ≡ Some kind →
+    keeps_width (Some kind) ≡ true → slice_get (operands kind) i ≡ Some x → width_at plan.gates x ≡ width_at plan.gates g
+same_width plan g kind i x valid is keeps at =
+    let (gate, here, of) = gate_there plan.gates g kind is in
+    let found : slice_get (operands gate.kind) i ≡ Some x = ap (λ k. slice_get (operands k) i) of ∙ at in
+    let u = used_at plan g gate i x valid here found in
+    let all = fit_same gate.kind gate.width (map (width_at (take g plan.gates)) (operands gate.kind)) (ap (λ k. keeps_width (Some k)) of ∙ keeps) (valid.each g gate here).fit in
+    let before : width_at (take g plan.gates) x ≡ gate.width =
+    by_index (λ v. v ≡ gate.width) (map (width_at (take g plan.gates)) (operands gate.kind)) i (width_at (take g plan.gates) x) all
+    (mapped (width_at (take g plan.gates)) (operands gate.kind) i x found) in
+    let (used, there, given) = by_index (IsOperand (take g plan.gates) (takes gate.kind)) (operands gate.kind) i x (valid.each g gate here).uses found in
+    width_of plan.gates x used (taken plan.gates g x used there)
+    ∙ (sym (width_of (take g plan.gates) x used there) ∙ (before ∙ sym (width_of plan.gates g gate here)))
+
+module _ (plan : Gates) (g : ℕ) (wires : List ValueInMemory) (valid : IsPlan plan) (are : AreOperands plan g wires) where
+  -- an operand that is a vector has its gate's width
+  pub vector_width : (at x : ℕ) (v : Bits) → slice_get wires at ≡ Some (code.B v) →
+      slice_get (operands_of (kind_at plan.gates g)) at ≡ Some x → v.width ≡ width_at plan.gates x
+  vector_width at x v found operand = by (slice_get plan.gates g) refl operand
+    where
+      by : (o : Option Gate) → slice_get plan.gates g ≡ o → slice_get (operands_of (option_map (λ (y : Gate). y.kind) o)) at ≡ Some x →
+          v.width ≡ width_at plan.gates x
+      by None e f = cc
+      by (Some gate) e f =
+          let u = used_at plan g gate at x valid e f in
+          let typed = typed_at plan g gate wires at x (code.B v) u are e f found in
+          typed.1 ∙ sym (width_of plan.gates x u.used u.there)
+
+  pub vector_same : (at : ℕ) (v : Bits) → slice_get wires at ≡ Some (code.B v) → keeps_width (kind_at plan.gates g) ≡ true →
+      at < length (operands_of (kind_at plan.gates g)) → v.width ≡ width_at plan.gates g
+  vector_same at v found keeps inside = by (kind_at plan.gates g) refl keeps inside
+    where
+      by : (o : Option Kind) → kind_at plan.gates g ≡ o → keeps_width o ≡ true → at < length (operands_of o) → v.width ≡ width_at plan.gates g
+      by None e f h = absurd (omega (arith, h))
+      by (Some kind) e f h =
+          let x = get_or (operands kind) at 0 in
+          let there = there_is (operands kind) at 0 h in
+          vector_width at x v found (ap (λ o. slice_get (operands_of o) at) e ∙ there) ∙ same_width plan g kind at x valid e f there
+
+  pub found_there : (at : ℕ) (d v : ValueInMemory) → at < length (operands_of (kind_at plan.gates g)) →
+      slice_index_or wires at d ≡ v → slice_get wires at ≡ Some v
+  found_there at d v inside is =
+      there_is wires at d (subst (λ n. at < n) (sym are.count) inside) ∙ ap (λ (y : ValueInMemory). Some y) is
+
+-- ---- records
+
+-- the bit triples of an AND
+pub record HasBits (plan : Gates) (own : OwnInMemory) (part : Part) (g : ℕ) : Type 0 where
+  pub some : 1 ≤ width_at plan.gates g
+  pub most : width_at plan.gates g ≤ most_width
+  pub there : (own.bases.bit + (offset plan.gates g).bit) + width_at plan.gates g ≤ length part.bits
+
+pub has_bits : (plan : Gates) (own : OwnInMemory) (part : Part) (g : ℕ) → IsPlan plan → Serves plan own part g →
+    is_conjunction (kind_at plan.gates g) ≡ true → HasBits plan own part g
+has_bits plan own part g valid serves is = by (slice_get plan.gates g) refl is
+  where
+    by : (o : Option Gate) → slice_get plan.gates g ≡ o → is_conjunction (option_map (λ (y : Gate). y.kind) o) ≡ true → HasBits plan own part g
+    by None e f = cc
+    by (Some gate) e f =
+        let w = width_of plan.gates g gate e in
+        let valid_gate = valid.each g gate e in
+        let some = valid_gate.some_width in
+        let most = valid_gate.in_width in
+        let needed : (needs_at (slice_get plan.gates g)).bit ≡ gate.width = ap (λ o. (needs_at o).bit) e ∙ of_and gate.kind gate.width f in
+        let enough = serves.records Bit (subst (λ n. 0 < n) (sym needed) (omega (arith, some))) in
+        record {
+          some = subst (λ n. 1 ≤ n) (sym w) some;
+          most = subst (λ n. n ≤ most_width) (sym w) most;
+          there = let whole = enough in omega (arith, whole, needed, w);
+        }
+      where
+        of_and : (kind : Kind) (w : ℕ) → is_conjunction (Some kind) ≡ true → (needs_of kind w).bit ≡ w
+        of_and (AndB x y) w e = refl
+        of_and _ w e = cc
+
+pub its_width : (gates : List Gate) (g w : ℕ) → option_map (λ (y : Gate). y.width) (slice_get gates g) ≡ Some w → width_at gates g ≡ w
+its_width gates g w e = ap (λ o. unwrap_or o 0) e
+
+-- ---- widths of operands
+
+widths_same : (before gates : List Gate) (given : Given) (xs : List ℕ) → ((x : ℕ) (gate : Gate) → slice_get before x ≡ Some gate → slice_get gates x ≡ Some gate) →
+    AllByRecursion (IsOperand before given) xs → map (width_at before) xs ≡ map (width_at gates) xs
+widths_same before gates given [] there all = refl
+widths_same before gates given (x ∷ xs) there all =
+    let (gate, at, is) = all.0 in
+    ap₂ (λ w ws. w ∷ ws) (width_of before x gate at ∙ sym (width_of gates x gate (there x gate at))) (widths_same before gates given xs there all.1)
+
+pub fits_at : (plan : Gates) (g : ℕ) (kind : Kind) → IsPlan plan → kind_at plan.gates g ≡ Some kind →
+    FitWidths kind (width_at plan.gates g) (map (width_at plan.gates) (operands kind))
+fits_at plan g kind valid is =
+    let (gate, here, of) = gate_there plan.gates g kind is in
+    let fit = (valid.each g gate here).fit in
+    let same = widths_same (take g plan.gates) plan.gates (takes gate.kind) (operands gate.kind) (λ x y. taken plan.gates g x y) (valid.each g gate here).uses in
+    subst (λ k. FitWidths k (width_at plan.gates g) (map (width_at plan.gates) (operands k))) of
+    (subst (λ w. FitWidths gate.kind w (map (width_at plan.gates) (operands gate.kind))) (sym (width_of plan.gates g gate here))
+    (subst (λ ws. FitWidths gate.kind gate.width ws) same fit))
+
+-- a gate has some width, and at most the most
+pub wide_at : (plan : Gates) (g : ℕ) (kind : Kind) → IsPlan plan → kind_at plan.gates g ≡ Some kind →
+    (1 ≤ width_at plan.gates g) × (width_at plan.gates g ≤ most_width)
+wide_at plan g kind valid is =
+    let (gate, here, of) = gate_there plan.gates g kind is in
+    let w = width_of plan.gates g gate here in
+    (subst (λ n. 1 ≤ n) (sym w) (valid.each g gate here).some_width, subst (λ n. n ≤ most_width) (sym w) (valid.each g gate here).in_width)
+
+-- what takes words has their width
+pub word_width : (plan : Gates) (g : ℕ) (kind : Kind) (x : ℕ) → IsPlan plan → kind_at plan.gates g ≡ Some kind →
+    takes kind ≡ Word → keeps_width (Some kind) ≡ true → slice_get (operands kind) 0 ≡ Some x → width_at plan.gates g ≡ most_width
+word_width plan g kind x valid is words keeps at =
+    let (gate, here, of) = gate_there plan.gates g kind is in
+    let found : slice_get (operands gate.kind) 0 ≡ Some x = ap (λ k. slice_get (operands k) 0) of ∙ at in
+    let u = used_at plan g gate 0 x valid here found in
+    let word : gives u.used.kind ≡ Word = u.gives_it ∙ (ap takes of ∙ words) in
+    sym (same_width plan g kind 0 x valid is keeps at) ∙ (width_of plan.gates x u.used u.there ∙ (valid.each x u.used u.there).word word)
+
+-- ---- kinds that are asked for by a test
+
+pub product_is : (o : Option Kind) → is_product o ≡ true → (kind : Kind) × (o ≡ Some kind) × (words_heard (Some kind) ≡ 2)
+product_is None e = cc
+product_is (Some (MulA x y)) e = (MulA x y, refl, refl)
+product_is (Some _) e = cc
+
+pub conjunction_is : (o : Option Kind) → is_conjunction o ≡ true → (kind : Kind) × (o ≡ Some kind) × (vectors_heard (Some kind) ≡ 2) × (keeps_width o ≡ true)
+conjunction_is None e = cc
+conjunction_is (Some (AndB x y)) e = (AndB x y, refl, refl, refl)
+conjunction_is (Some _) e = cc
+
+-- each gate of a plan has some width, and at most the most
+pub wide_in : (plan : Gates) (g : ℕ) → IsPlan plan → g < length plan.gates →
+    (1 ≤ width_at plan.gates g) × (width_at plan.gates g ≤ most_width)
+wide_in plan g valid inside = by (slice_get plan.gates g) refl
+  where
+    by : (o : Option Gate) → slice_get plan.gates g ≡ o → (1 ≤ width_at plan.gates g) × (width_at plan.gates g ≤ most_width)
+    by None e = let past = none_past plan.gates g e in absurd (omega (arith, past, inside))
+      where
+        none_past : (xs : List Gate) (k : ℕ) → slice_get xs k ≡ None → length xs ≤ k
+        none_past [] k e = omega arith
+        none_past (x ∷ xs) zero e = cc
+        none_past (x ∷ xs) (suc k) e = let rest = none_past xs k e in omega (arith, rest)
+    by (Some gate) e = wide_at plan g gate.kind valid (ap (option_map (λ (y : Gate). y.kind)) e)
+
+-- what gives a word has its width
+pub word_given : (plan : Gates) (g : ℕ) (kind : Kind) → IsPlan plan → kind_at plan.gates g ≡ Some kind → gives kind ≡ Word →
+    width_at plan.gates g ≡ most_width
+word_given plan g kind valid is word =
+    let (gate, here, of) = gate_there plan.gates g kind is in
+    width_of plan.gates g gate here ∙ (valid.each g gate here).word (ap gives of ∙ word)
+
+-- the own input of a gate has its bits
+pub input_there : (plan : Gates) (own : OwnInMemory) (part : Part) (g : ℕ) (kind : Kind) (t : Taken) → Serves plan own part g →
+    kind_at plan.gates g ≡ Some kind → taken_by kind ≡ Some t → t.party ≡ own.me.0 →
+    taken_from kind + width_at plan.gates g ≤ length (get_or own.inputs t.k [])
+input_there plan own part g kind t serves is takes_it mine =
+    let (gate, here, of) = gate_there plan.gates g kind is in
+    subst (λ w. taken_from kind + w ≤ length (get_or own.inputs t.k [])) (sym (width_of plan.gates g gate here))
+    (subst (λ k. taken_from k + gate.width ≤ length (get_or own.inputs t.k [])) of
+    (serves.input gate here t (ap taken_by of ∙ takes_it) mine))

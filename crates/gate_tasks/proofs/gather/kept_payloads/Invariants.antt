@@ -1,0 +1,13 @@
+use Rattle.std.proofs.Common.{◌≡◌, filter}
+use Rattle.std.specs.Prelude.{is_some}
+use Rattle.share_types.specs.Sums.{each}
+use Rattle.gate_plan.specs.Messages.{message}
+use Rattle.gate_tasks.specs.Task.{KeptFit, kept_payloads as payloads_kept}
+use Rattle.gate_tasks.proofs.gather.kept_payloads.Given as goal
+
+abbrev pub invariant-loop-from : goal.invariant-loop-from
+invariant-loop-from l =
+    (l.payloads.items
+    ≡ payloads_kept l.env.inbox.now l.gate l.round
+    (filter (λ from. is_some (message l.env.plan.now from l.env.own.now.me.0 l.gate l.round)) (each l.from (λ from. from))))
+    × KeptFit l.env.plan.now l.env.own.now.me.0 l.env.inbox.now l.gate l.round l.from

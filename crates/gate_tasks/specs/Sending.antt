@@ -1,0 +1,39 @@
+-- What a party has to send in a round, by receiver.
+use Rattle.std.specs.Option.{unwrap_or}
+use Rattle.std.specs.Prelude.{ℕ, ◌<◌, List, [], ◌∷◌, ◌++◌, take, length, map, slice_get, slice_index, Option, Some, None}
+use Rattle.share_types.specs.declared.bits.Bits.{Bits}
+use Rattle.gate_tasks.specs.Payload.{word_bytes, vectors_bytes}
+use Rattle.gate_tasks.specs.Party.{Payload}
+use Rattle.gate_tasks.specs.Stage.{receivers}
+use Rattle.gate_tasks.specs.declared.own.StageEnv.{StageEnv}
+use Rattle.gate_tasks.specs.declared.outgoing.Out.{Out}
+use Rattle.gate_tasks.specs.declared.sending.ToSend.{ToSend}
+use Rattle.gate_tasks.specs.declared.sending.ToSend.TheVariants.{Same, Words, Vectors}
+
+-- there is something for a party
+abbrev pub HasFor : ToSend → ℕ → Type 0
+HasFor (Same payload) to = Unit {0}
+HasFor (Words words) to = to < length words.items
+HasFor (Vectors vectors) to = to < length vectors.items
+
+-- the payload of one vector
+abbrev pub payload_of : Option Bits → Payload
+payload_of None = []
+payload_of (Some vector) = vectors_bytes vector.width (vector.word ∷ [])
+
+-- the payload for a party
+abbrev pub payload_for : ToSend → ℕ → Payload
+payload_for (Same payload) to = payload
+payload_for (Words words) to = word_bytes (slice_index words.items to ∷ [])
+payload_for (Vectors vectors) to = payload_of (slice_get vectors.items to)
+
+-- the message to a party of a gate's first round, and those to all receivers, by what each is sent
+abbrev pub out_by : StageEnv → (ℕ → Payload) → ℕ → Out
+out_by env payload to = record { to = record { 0 = to }; gate = env.gate; round = 0; payload = payload to }
+
+abbrev pub outs_by : StageEnv → (ℕ → Payload) → List Out
+outs_by env payload = map (out_by env payload) (receivers env.plan.now env.own.now.me.0 env.gate 0)
+
+-- what is carried, with the payload of the first message more, if there is one
+abbrev pub carried_with : Option (List Payload) → List Out → List Payload
+carried_with carried outs = unwrap_or carried [] ++ map (λ out. out.payload) (take 1 outs)

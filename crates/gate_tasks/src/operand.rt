@@ -1,0 +1,69 @@
+//! What a stage takes: the shares of its operands, and the party's parts of the gate's triples.
+
+ghost use Rattle.std.specs.Prelude.{◌≡◌, ◌<◌, ℕ, true, length, slice_get, Some};
+ghost use Rattle.gate_plan.specs.Gate.{Word, Vector, width_at};
+ghost use Rattle.gate_plan.specs.Plan.{IsPlan};
+ghost use Rattle.gate_tasks.specs.Party.{triple, bits_of, width};
+ghost use Rattle.gate_tasks.specs.Stage.{Serves, AreOperands, operands_of};
+ghost use Rattle.gate_tasks.specs.ByValue.{kind_in, stand, takes_of, keeps_width, is_product, is_conjunction, share_in};
+
+use crate::own::StageEnv;
+use crate::value::Value;
+use share_types::{BitTriple, Bits, MultTriple};
+
+/// The party's share of the word that is the operand at a place.
+pub(crate) fn word_at(env: &StageEnv, wires: &[Value], at: usize) -> u64
+    requires plan { IsPlan env.now.plan.now }
+    requires operands { AreOperands env.now.plan.now env.now.gate wires.now }
+    requires words { takes_of (kind_in env.now) ≡ Some Word }
+    requires inside { at < length (operands_of (kind_in env.now)) }
+    ensures { result ≡ share_in wires.now at }
+{
+    match wires[at] {
+        Value::A(word) => word,
+        _ => unreachable!(),
+    }
+}
+
+/// The party's share of the vector that is the operand at a place.
+pub(crate) fn vector_at(env: &StageEnv, wires: &[Value], at: usize) -> Bits
+    requires plan { IsPlan env.now.plan.now }
+    requires operands { AreOperands env.now.plan.now env.now.gate wires.now }
+    requires vectors { takes_of (kind_in env.now) ≡ Some Vector }
+    requires inside { at < length (operands_of (kind_in env.now)) }
+    ensures share { result.word ≡ share_in wires.now at }
+    ensures width { (x : ℕ) → slice_get (operands_of (kind_in env.now)) at ≡ Some x →
+        result.width ≡ width_at env.now.plan.now.gates x }
+    ensures same_width { keeps_width (kind_in env.now) ≡ true → result.width ≡ width (stand env.now) }
+{
+    match wires[at] {
+        Value::B(vector) => vector,
+        _ => unreachable!(),
+    }
+}
+
+/// The party's part of the multiplication triple of a product.
+pub(crate) fn mult_triple(env: &StageEnv) -> MultTriple
+    requires serves { Serves env.now.plan.now env.now.own.now env.now.part.now env.now.gate }
+    requires product { is_product (kind_in env.now) ≡ true }
+    ensures { result ≡ triple (stand env.now) }
+{
+    env.part.is_part();
+    let first = env.own.bases.mult + env.plan.offset(env.gate).mult;
+    env.part.mult(first)
+}
+
+/// The party's parts of the bit triples of an AND.
+pub(crate) fn bit_triple(env: &StageEnv) -> BitTriple
+    requires plan { IsPlan env.now.plan.now }
+    requires serves { Serves env.now.plan.now env.now.own.now env.now.part.now env.now.gate }
+    requires conjunction { is_conjunction (kind_in env.now) ≡ true }
+    ensures a { result.a.word ≡ bits_of (stand env.now) 0 }
+    ensures b { result.b.word ≡ bits_of (stand env.now) 1 }
+    ensures c { result.c.word ≡ bits_of (stand env.now) 2 }
+    ensures width { result.a.width ≡ width (stand env.now) }
+{
+    env.part.is_part();
+    let first = env.own.bases.bit + env.plan.offset(env.gate).bit;
+    env.part.bits(first, env.plan.width(env.gate))
+}

@@ -1,0 +1,101 @@
+//! What a stage sends.
+
+ghost use Rattle.std.specs.Prelude.{◌≡◌, ◌<◌, ℕ, true, length, IfOk};
+ghost use Rattle.gate_plan.specs.Plan.{IsPlan};
+ghost use Rattle.gate_tasks.specs.Stage.{Serves, AreOperands};
+ghost use Rattle.gate_tasks.specs.ByValue.{kind_in, stand, is_product, is_conjunction, formed_of, opening, opening_of_bits};
+ghost use Rattle.gate_tasks.specs.Sending.{payload_for, HasFor, outs_by};
+
+use crate::operand::{bit_triple, mult_triple, vector_at, word_at};
+use crate::outgoing::{Out, Outs};
+use crate::own::StageEnv;
+use crate::payload::{vector_payload, word_payload};
+use crate::value::Value;
+use gate_plan::GateKind;
+use mot_base::{NoMemory, Party, Payload};
+use share_types::Bits;
+use std::alloc::Global;
+
+/// What a party has to send in a round: one payload to all, or to each party its share of an input.
+#[derive(Drop)]
+pub(crate) enum ToSend {
+    Same(Payload),
+    Words(Vec<u64>),
+    Vectors(Vec<Bits>),
+}
+
+impl ToSend {
+    /// The payload for a party.
+    fn payload(&self, alloc: Global, to: Party) -> Result<Payload, NoMemory>
+        requires { HasFor self.now to.0 }
+        ensures { IfOk result (λ payload. payload ≡ payload_for self.now to.0) }
+    {
+        match self {
+            ToSend::Same(payload) => payload.copy(alloc),
+            ToSend::Words(words) => word_payload(alloc, &[words[usize::from(to.0)]]),
+            ToSend::Vectors(vectors) => vector_payload(alloc, &[vectors[usize::from(to.0)]]),
+        }
+    }
+}
+
+/// The payload that a party forms at a gate, and an empty one where it forms none. Of an input it is empty.
+pub(crate) fn formed(alloc: Global, env: &StageEnv, wires: &[Value]) -> Result<Payload, NoMemory>
+    requires plan { IsPlan env.now.plan.now }
+    requires serves { Serves env.now.plan.now env.now.own.now env.now.part.now env.now.gate }
+    requires operands { AreOperands env.now.plan.now env.now.gate wires.now }
+    ensures { IfOk result (λ payload. payload ≡ formed_of (kind_in env.now) (stand env.now) wires.now) }
+{
+    match env.plan.gate(env.gate) {
+        GateKind::MulA { .. } => opening(alloc, env, wires),
+        GateKind::OutA { .. } => word_payload(alloc, &[word_at(env, wires, 0)]),
+        GateKind::AndB { .. } => opening_of_bits(alloc, env, wires),
+        GateKind::OutB { .. } => vector_payload(alloc, &[vector_at(env, wires, 0)]),
+        _ => Ok(Payload::new(Vec::new(alloc))),
+    }
+}
+
+/// What a party opens of the operands of a product.
+fn opening(alloc: Global, env: &StageEnv, wires: &[Value]) -> Result<Payload, NoMemory>
+    requires plan { IsPlan env.now.plan.now }
+    requires serves { Serves env.now.plan.now env.now.own.now env.now.part.now env.now.gate }
+    requires operands { AreOperands env.now.plan.now env.now.gate wires.now }
+    requires product { is_product (kind_in env.now) ≡ true }
+    ensures { IfOk result (λ payload. payload ≡ opening (stand env.now) wires.now) }
+{
+    let (left, right) = (word_at(env, wires, 0), word_at(env, wires, 1));
+    let (d, e) = arithmetic_gmw::mul_open(left, right, mult_triple(env));
+    word_payload(alloc, &[d, e])
+}
+
+/// What a party opens of the operands of an AND.
+fn opening_of_bits(alloc: Global, env: &StageEnv, wires: &[Value]) -> Result<Payload, NoMemory>
+    requires plan { IsPlan env.now.plan.now }
+    requires serves { Serves env.now.plan.now env.now.own.now env.now.part.now env.now.gate }
+    requires operands { AreOperands env.now.plan.now env.now.gate wires.now }
+    requires conjunction { is_conjunction (kind_in env.now) ≡ true }
+    ensures { IfOk result (λ payload. payload ≡ opening_of_bits (stand env.now) wires.now) }
+{
+    let (left, right) = (vector_at(env, wires, 0), vector_at(env, wires, 1));
+    let (d, e) = boolean_gmw::and_open(left, right, bit_triple(env));
+    vector_payload(alloc, &[d, e])
+}
+
+/// The messages of a gate's first round, one to each party for which the plan has one, in rising order.
+pub(crate) fn outs(alloc: Global, env: &StageEnv, sent: &ToSend) -> Result<Outs, NoMemory>
+    requires gate { env.now.gate < length env.now.plan.now.gates }
+    requires each { (to : ℕ) → to < env.now.plan.now.parties → HasFor sent.now to }
+    ensures { IfOk result (λ outs. outs ≡ outs_by env.now (payload_for sent.now)) }
+{
+    let mut outs = Vec::new(alloc);
+    for to in 0..env.plan.parties() {
+        if env.plan.slot(env.own.me, Party(to), env.gate, 0).is_some() {
+            outs.push(Out {
+                to: Party(to),
+                gate: env.gate,
+                round: 0,
+                payload: sent.payload(alloc, Party(to))?,
+            })?;
+        }
+    }
+    Ok(Outs::new(outs))
+}

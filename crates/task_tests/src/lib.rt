@@ -1,0 +1,7 @@
+//! Tests of the tasks of one party: what a gate sends, waits for and gives.
+#![tactic(auto)]
+
+#[cfg(test)]
+mod conditions;
+#[cfg(test)]
+mod tasks;
