@@ -1,0 +1,11 @@
+//! Items of a graph that are run with values on the edges between them: each item takes the values of the edges that
+//! end there and gives those of the edges that start there.
+#![tactic(auto)]
+
+mod run;
+mod slots;
+mod work;
+
+pub use run::run_turns;
+pub use slots::Slots;
+pub use work::Work;
