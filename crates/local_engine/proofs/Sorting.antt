@@ -1,0 +1,69 @@
+-- What flows into an item is sorted by kind.
+use Rattle.std.proofs.Common.{◌≡◌, ℕ, List, [], ◌∷◌, ◌++◌, Option, Some, None, refl, sym, ap, ◌∙◌, subst}
+use Rattle.std.specs.List.{flat_map}
+use Rattle.std.proofs.lemmas.List.{append-nil, append_assoc, flat_map_more}
+use Rattle.gate_tasks.specs.declared.value.Value.{Value as ValueInMemory}
+use Rattle.local_engine.specs.declared.cargo.Cargo.{Cargo}
+use Rattle.local_engine.specs.declared.cargo.Cargo.TheVariants.{Value, Kept, Message}
+use Rattle.local_engine.specs.Cargo.{values_of, payloads_of, kept_after}
+
+-- what was gone through and what is left
+pub rest_next : {X : Type 0} (all yielded rest left : List X) (x : X) → yielded ++ rest ≡ all → rest ≡ x ∷ left → yielded ++ x ∷ [] ++ left ≡ all
+rest_next {X = X} all yielded rest left x whole next =
+    append_assoc yielded (x ∷ []) left ∙ ap (λ (xs : List X). yielded ++ xs) (sym next) ∙ whole
+
+-- one more that has something, and one more that has nothing
+one_more : {X : Type 0} (f : Cargo → List X) (old new : List X) (yielded : List Cargo) (x : Cargo) → old ≡ flat_map f yielded → new ≡ old ++ f x → new ≡ flat_map f (yielded ++ x ∷ [])
+one_more {X = X} f old new yielded x before more =
+    more ∙ ap (λ (xs : List X). xs ++ f x) before ∙ flat_map_more f [] yielded x
+
+none_more : {X : Type 0} (f : Cargo → List X) (old : List X) (yielded : List Cargo) (x : Cargo) → old ≡ flat_map f yielded → f x ≡ [] → old ≡ flat_map f (yielded ++ x ∷ [])
+none_more {X = X} f old yielded x before none =
+    one_more f old old yielded x before (sym (append-nil old) ∙ ap (λ (xs : List X). old ++ xs) (sym none))
+
+-- what one more carries
+abbrev kept_by : Option (List (List ℕ)) → Cargo → Option (List (List ℕ))
+kept_by before x = kept_after before (x ∷ [])
+
+kept_more : (before : Option (List (List ℕ))) (yielded : List Cargo) (x : Cargo) → kept_after before (yielded ++ x ∷ []) ≡ kept_by (kept_after before yielded) x
+kept_more before [] x = refl
+kept_more before (Value v ∷ yielded) x = kept_more before yielded x
+kept_more before (Kept k ∷ yielded) x = kept_more (Some k) yielded x
+kept_more before (Message bytes ∷ yielded) x = kept_more before yielded x
+
+kept_next : (old new : Option (List (List ℕ))) (yielded : List Cargo) (x : Cargo) → old ≡ kept_after None yielded → new ≡ kept_by old x → new ≡ kept_after None (yielded ++ x ∷ [])
+kept_next old new yielded x before next =
+    next ∙ ap (λ (o : Option (List (List ℕ))). kept_by o x) before ∙ sym (kept_more None yielded x)
+
+-- what was sorted so far
+pub record IsSorted (wires : List ValueInMemory) (carried : Option (List (List ℕ))) (payloads : List (List ℕ)) (yielded : List Cargo) : Type 0 where
+  pub wires_are : wires ≡ flat_map values_of yielded
+  pub carried_is : carried ≡ kept_after None yielded
+  pub payloads_are : payloads ≡ flat_map payloads_of yielded
+
+pub sorted_none : IsSorted [] None [] []
+sorted_none = record { wires_are = refl; carried_is = refl; payloads_are = refl }
+
+pub sorted_value : (wires new : List ValueInMemory) (carried : Option (List (List ℕ))) (payloads : List (List ℕ)) (yielded : List Cargo) (x : Cargo) (v : ValueInMemory) → IsSorted wires carried payloads yielded → x ≡ Value v → new ≡ wires ++ v ∷ [] → IsSorted new carried payloads (yielded ++ x ∷ [])
+sorted_value wires new carried payloads yielded x v s is more =
+    subst (λ (y : Cargo). IsSorted new carried payloads (yielded ++ y ∷ [])) (sym is) (record {
+      wires_are = one_more values_of wires new yielded (Value v) s.wires_are more;
+      carried_is = kept_next carried carried yielded (Value v) s.carried_is refl;
+      payloads_are = none_more payloads_of payloads yielded (Value v) s.payloads_are refl;
+    })
+
+pub sorted_kept : (wires : List ValueInMemory) (carried : Option (List (List ℕ))) (payloads : List (List ℕ)) (yielded : List Cargo) (x : Cargo) (k : List (List ℕ)) → IsSorted wires carried payloads yielded → x ≡ Kept k → IsSorted wires (Some k) payloads (yielded ++ x ∷ [])
+sorted_kept wires carried payloads yielded x k s is =
+    subst (λ (y : Cargo). IsSorted wires (Some k) payloads (yielded ++ y ∷ [])) (sym is) (record {
+      wires_are = none_more values_of wires yielded (Kept k) s.wires_are refl;
+      carried_is = kept_next carried (Some k) yielded (Kept k) s.carried_is refl;
+      payloads_are = none_more payloads_of payloads yielded (Kept k) s.payloads_are refl;
+    })
+
+pub sorted_message : (wires : List ValueInMemory) (carried : Option (List (List ℕ))) (payloads new : List (List ℕ)) (yielded : List Cargo) (x : Cargo) (bytes : List ℕ) → IsSorted wires carried payloads yielded → x ≡ Message bytes → new ≡ payloads ++ bytes ∷ [] → IsSorted wires carried new (yielded ++ x ∷ [])
+sorted_message wires carried payloads new yielded x bytes s is more =
+    subst (λ (y : Cargo). IsSorted wires carried new (yielded ++ y ∷ [])) (sym is) (record {
+      wires_are = none_more values_of wires yielded (Message bytes) s.wires_are refl;
+      carried_is = kept_next carried carried yielded (Message bytes) s.carried_is refl;
+      payloads_are = one_more payloads_of payloads new yielded (Message bytes) s.payloads_are more;
+    })

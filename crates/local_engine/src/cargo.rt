@@ -1,0 +1,15 @@
+//! What edges carry.
+
+use gate_tasks::{Carried, Value};
+use mot_base::Payload;
+
+/// The value on an edge.
+#[derive(Drop)]
+pub(crate) enum Cargo {
+    /// A party's value of a gate.
+    Value(Value),
+    /// What a party keeps at a gate behind its first stage.
+    Kept(Carried),
+    /// A payload.
+    Message(Payload),
+}

@@ -1,0 +1,21 @@
+//! All parties of a run in one process.
+#![tactic(auto)]
+
+mod cargo;
+mod edges;
+mod graph;
+mod inputs;
+mod item;
+mod items;
+mod job;
+mod laws;
+mod loads;
+mod outputs;
+mod report;
+mod run;
+mod work;
+
+pub use job::LocalJob;
+pub use laws::{bristol_outputs_are_told, mixed_outputs_are_told, told_bits_are_those_of_outputs};
+pub use report::PartyReport;
+pub use run::local_turns;

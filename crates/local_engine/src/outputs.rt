@@ -1,0 +1,83 @@
+//! What flows out of an item.
+
+ghost use Rattle.std.specs.Prelude.{◌≡◌, ℕ, List, Some, slice_get, IsSome, IfOk, IfSome};
+ghost use Rattle.std.specs.List.{AllByRecursion};
+ghost use Rattle.task_pool.specs.Meanings.{AreMeanings};
+ghost use Rattle.local_engine.specs.declared.cargo.Cargo.TheVariants as cargo;
+ghost use Rattle.local_engine.specs.Meaning.{Sends, HasCargo, IsCargo, HasCargoAt, IsCargoAt};
+
+use crate::cargo::Cargo;
+use crate::item::Load;
+use gate_tasks::{Out, StageOut};
+use mot_base::{NoMemory, Party};
+use std::alloc::Global;
+
+/// What the edges with these numbers carry, of what a stage gave.
+pub(crate) fn outputs(
+    alloc: Global,
+    loads: &[Load],
+    edges: &[u32],
+    given: &StageOut,
+) -> Result<Vec<Cargo>, NoMemory>
+    requires { AllByRecursion (λ e. HasCargoAt given.now (slice_get loads.now e)) edges.now }
+    ensures { IfOk result (λ outputs.
+        AreMeanings (λ e c. IsCargoAt given.now (slice_get loads.now e) c) edges.now outputs.items) }
+{
+    let mut outputs = Vec::with_capacity(alloc, edges.len())?;
+    for edge in edges {
+        let output = cargo(alloc, loads[*edge as usize], given)?;
+        outputs.push(output)?;
+    }
+    Ok(outputs)
+}
+
+/// What an edge carries, of what a stage gave.
+fn cargo(alloc: Global, load: Load, given: &StageOut) -> Result<Cargo, NoMemory>
+    requires { HasCargo given.now load }
+    ensures { IfOk result (λ c. IsCargo given.now load c) }
+{
+    match load {
+        Load::Wire { .. } => value(alloc, given),
+        Load::Kept { .. } => kept(alloc, given),
+        Load::Message { to, .. } => message(alloc, given.out.as_slice(), to),
+    }
+}
+
+/// The value that a stage gave.
+fn value(alloc: Global, given: &StageOut) -> Result<Cargo, NoMemory>
+    requires { IsSome given.now.value }
+    ensures { IfOk result (λ c. IfSome given.now.value (λ v. c ≡ cargo.Value v)) }
+{
+    let Some(value) = &given.value else {
+        unreachable!();
+    };
+    let copy = value.copy(alloc)?;
+    Ok(Cargo::Value(copy))
+}
+
+/// What a stage carries on.
+fn kept(alloc: Global, given: &StageOut) -> Result<Cargo, NoMemory>
+    requires { IsSome given.now.carried }
+    ensures { IfOk result (λ c. IfSome given.now.carried (λ kept. c ≡ cargo.Kept kept)) }
+{
+    let Some(kept) = &given.carried else {
+        unreachable!();
+    };
+    let copy = kept.copy(alloc)?;
+    Ok(Cargo::Kept(copy))
+}
+
+/// The payload of round 0 to a party.
+fn message(alloc: Global, outs: &[Out], to: Party) -> Result<Cargo, NoMemory>
+    requires { (payload : List ℕ) × Sends outs.now to payload }
+    ensures { IfOk result (λ c. (payload : List ℕ) × Sends outs.now to payload × (c ≡ cargo.Message payload)) }
+{
+    for out in outs {
+        if out.to != to || out.round != 0 {
+            continue;
+        }
+        let copy = out.payload.copy(alloc)?;
+        return Ok(Cargo::Message(copy));
+    }
+    unreachable!()
+}
