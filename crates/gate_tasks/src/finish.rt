@@ -103,7 +103,8 @@ pub(crate) fn heard_value(env: &StageEnv, wires: &[Value], payloads: &[Payload])
     requires me { env.now.own.now.me.0 < env.now.plan.now.parties }
     requires hears { hears_at (kind_in env.now) env.now.own.now.me.0 ≡ true }
     requires payloads { AreAwaited env.now.plan.now env.now.own.now.me.0 env.now.gate (Some 0) payloads.now }
-    ensures value { value_of result ≡ value_of_stage (kind_in env.now) (stand env.now) wires.now payloads.now }
+    ensures value { value_of result
+        ≡ value_of_stage (kind_in env.now) (stand env.now) wires.now payloads.now }
     ensures typed { IsGiven (gives_of (kind_in env.now)) (width (stand env.now)) result }
 {
     match env.plan.gate(env.gate) {

@@ -74,7 +74,8 @@ fn unless_held(wires: &Wires<Value>, gate: Option<u32>) -> Option<u32>
 /// The slot of the first message of a round that did not come.
 fn slot_lacking(env: &Env, gate: u32, round: u8) -> Option<Slot>
     requires { gate < length env.now.plan.now.gates }
-    ensures { result ≡ slot_lacking env.now.plan.now env.now.own.now.me.0 env.now.inbox.now gate (Some round) }
+    ensures { result
+        ≡ slot_lacking env.now.plan.now env.now.own.now.me.0 env.now.inbox.now gate (Some round) }
 {
     for from in 0..env.plan.parties() {
         let from = Party(from);
@@ -154,8 +155,10 @@ fn push_kept(
     env: &Env,
     slot: Slot,
 ) -> Result<(), NoMemory>
-    ensures pushed { OnOk result (payloads.new.items ≡ payloads.old.items ++ option_list (map.get env.now.inbox.now.kept slot)) }
-    ensures fits { OnOk result (IfSome (map.get env.now.inbox.now.kept slot) (Fits env.now.inbox.now.slots slot)) }
+    ensures pushed { OnOk result (payloads.new.items
+        ≡ payloads.old.items ++ option_list (map.get env.now.inbox.now.kept slot)) }
+    ensures fits { OnOk result
+        (IfSome (map.get env.now.inbox.now.kept slot) (Fits env.now.inbox.now.slots slot)) }
 {
     if let Some(payload) = env.inbox.get(slot) {
         payloads.push(payload.copy(alloc)?)?;

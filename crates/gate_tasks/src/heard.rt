@@ -24,7 +24,8 @@ pub(crate) fn opened_word(part: u64, payloads: &[Payload], at: usize) -> u64
 
 /// What the own part and the vectors at a place of all payloads XOR to.
 pub(crate) fn opened_vector(part: Bits, payloads: &[Payload], at: usize) -> Bits
-    requires inside { All (λ payload. vector_bytes part.width * at + vector_bytes part.width ≤ length payload) payloads.now }
+    requires inside { All
+        (λ payload. vector_bytes part.width * at + vector_bytes part.width ≤ length payload) payloads.now }
     requires small { All (λ payload. vector_in part.width payload at < 2 ^ part.width) payloads.now }
     ensures word { result.word ≡ opened_vectors part.width part.word at payloads.now }
     ensures width { result.width ≡ part.width }

@@ -58,7 +58,8 @@ pub(crate) fn give_vector(
     ensures kept { IfOk result (λ given. given.0.word ≡ kept_vector (stand env.now) k at) }
     ensures width { IfOk result (λ given. given.0.width ≡ width (stand env.now)) }
     ensures sent { IfOk result (λ given. given.1
-        ≡ outs_by env.now (λ to. vectors_bytes (width (stand env.now)) (given_vector (stand env.now) to ∷ []))) }
+        ≡ outs_by env.now
+        (λ to. vectors_bytes (width (stand env.now)) (given_vector (stand env.now) to ∷ []))) }
 {
     let own = env.own;
     let x = own.inputs.bits(k, at, env.plan.width(env.gate));

@@ -45,7 +45,8 @@ pub fn run_stage(
     requires stage { stage < stages env.now.plan.now env.now.own.now.me.0 env.now.gate }
     requires wires { AreOperands env.now.plan.now env.now.gate wires.now }
     requires payloads { let me = env.now.own.now.me.0 in
-        AreAwaited env.now.plan.now me env.now.gate (awaits env.now.plan.now me env.now.gate stage) payloads.now }
+        AreAwaited env.now.plan.now me env.now.gate
+        (awaits env.now.plan.now me env.now.gate stage) payloads.now }
     ensures gives { IfOk result (λ given. (before : List party.Value) (got : Rounds) →
         IsStage (hand_in env.now before) got stage wires.now carried payloads.now →
         Gives (hand_in env.now before) got stage given) }
@@ -104,8 +105,10 @@ fn input_stage(alloc: Global, env: &StageEnv) -> Result<StageOut, NoMemory>
     ensures carried { IfOk result (λ given. given.carried ≡ None) }
     ensures value { IfOk result (λ given. option_map value_of given.value
         ≡ Some (value_of_stage (kind_in env.now) (stand env.now) [] [])) }
-    ensures out { IfOk result (λ given. given.out ≡ outs_by env.now (given_of (kind_in env.now) (stand env.now))) }
-    ensures typed { IfOk result (λ given. IfSome given.value (IsGiven (gives_of (kind_in env.now)) (width (stand env.now)))) }
+    ensures out { IfOk result (λ given. given.out
+        ≡ outs_by env.now (given_of (kind_in env.now) (stand env.now))) }
+    ensures typed { IfOk result (λ given. IfSome given.value
+        (IsGiven (gives_of (kind_in env.now)) (width (stand env.now)))) }
 {
     match env.plan.gate(env.gate) {
         GateKind::InA { k, .. } => {
@@ -138,8 +141,10 @@ fn first_stage(
         ≡ (if hears_at (kind_in env.now) env.now.own.now.me.0 then None
         else Some (value_of_stage (kind_in env.now) (stand env.now) wires.now []))) }
     ensures carried { IfOk result (λ given. given.carried
-        ≡ (if hears_at (kind_in env.now) env.now.own.now.me.0 then Some (carried_with carried given.out) else None)) }
-    ensures typed { IfOk result (λ given. IfSome given.value (IsGiven (gives_of (kind_in env.now)) (width (stand env.now)))) }
+        ≡ (if hears_at (kind_in env.now) env.now.own.now.me.0
+        then Some (carried_with carried given.out) else None)) }
+    ensures typed { IfOk result (λ given. IfSome given.value
+        (IsGiven (gives_of (kind_in env.now)) (width (stand env.now)))) }
 {
     let formed = formed(alloc, env, wires)?;
     let out = outs(alloc, env, &ToSend::Same(formed))?;

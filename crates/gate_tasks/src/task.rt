@@ -69,10 +69,13 @@ impl GateTask {
         requires inbox { ExpectsAll env.now.plan.now env.now.own.now.me.0 self.old.gate env.now.inbox.now }
         ensures lacks { IfOk result (λ step. need_of step ≡ lacking env.now self.old.gate self.old.stage) }
         ensures waits { IfOk result (λ step. IsSome (need_of step) → self.new ≡ self.old) }
-        ensures runs { let me = env.now.own.now.me.0 in IfOk result (λ step. (before : List party.Value) (got : Rounds) →
+        ensures runs { let me = env.now.own.now.me.0 in
+            IfOk result (λ step. (before : List party.Value) (got : Rounds) →
             IsStage (hand_in (place_at env.now self.old.gate) before) got self.old.stage
-            (held_values env.now.wires.now (operands_at env.now.plan.now.gates self.old.gate)) self.old.carried
-            (payloads_at env.now.plan.now me env.now.inbox.now self.old.gate (awaits env.now.plan.now me self.old.gate self.old.stage)) →
+            (held_values env.now.wires.now (operands_at env.now.plan.now.gates self.old.gate))
+            self.old.carried
+            (payloads_at env.now.plan.now me env.now.inbox.now self.old.gate
+            (awaits env.now.plan.now me self.old.gate self.old.stage)) →
             HasRun (hand_in (place_at env.now self.old.gate) before) got self.old step self.new) }
         ensures typed { IfOk result (λ step. IfSome (value_done step) (λ value. (gate : Gate) →
             slice_get env.now.plan.now.gates self.old.gate ≡ Some gate → IsOf gate value)) }
@@ -99,10 +102,13 @@ impl GateTask {
         requires wires { HoldTypes env.now.plan.now self.now.gate env.now.wires.now }
         requires inbox { ExpectsAll env.now.plan.now env.now.own.now.me.0 self.now.gate env.now.inbox.now }
         requires all { lacking env.now self.now.gate self.now.stage ≡ None }
-        ensures gives { let me = env.now.own.now.me.0 in IfOk result (λ given. (before : List party.Value) (got : Rounds) →
+        ensures gives { let me = env.now.own.now.me.0 in
+            IfOk result (λ given. (before : List party.Value) (got : Rounds) →
             IsStage (hand_in (place_at env.now self.now.gate) before) got self.now.stage
-            (held_values env.now.wires.now (operands_at env.now.plan.now.gates self.now.gate)) self.now.carried
-            (payloads_at env.now.plan.now me env.now.inbox.now self.now.gate (awaits env.now.plan.now me self.now.gate self.now.stage)) →
+            (held_values env.now.wires.now (operands_at env.now.plan.now.gates self.now.gate))
+            self.now.carried
+            (payloads_at env.now.plan.now me env.now.inbox.now self.now.gate
+            (awaits env.now.plan.now me self.now.gate self.now.stage)) →
             Gives (hand_in (place_at env.now self.now.gate) before) got self.now.stage given) }
         ensures typed { IfOk result (λ given. IfSome given.value (λ value. (gate : Gate) →
             slice_get env.now.plan.now.gates self.now.gate ≡ Some gate → IsOf gate value)) }
