@@ -1,5 +1,5 @@
 -- The fields before the records: what their checks show, and the bytes that spell them.
-use Rattle.std.proofs.Common.{◌≡◌, ℕ, ◌+◌, ◌%◌, ◌<◌, ◌≤◌, Bool, true, false, ◌&&◌, List, [], ◌∷◌, ◌++◌, length, take, drop, get_or, refl, sym, ap, ap₂, ◌∙◌, arith, Option, Some, None}
+use Rattle.std.proofs.Common.{◌≡◌, ℕ, ◌+◌, ◌%◌, ◌^◌, ◌<◌, ◌≤◌, Bool, true, false, ◌&&◌, List, [], ◌∷◌, ◌++◌, length, take, drop, get_or, refl, sym, ap, ap₂, ◌∙◌, arith, Option, Some, None}
 use Rattle.std.specs.Prelude.{◌==◌, nat_lt, nat_le, if◌then◌else◌}
 use Rattle.std.proofs.lemmas.Bool.Decides.{nat_tests}
 use Rattle.std.proofs.lemmas.Slice.Eq.{bytes_eq-Decides}
@@ -91,9 +91,9 @@ counts-spelled bytes small long =
 
 pub head-is : (bytes : List ℕ) (id offset : ℕ) (counts : Needs) → IsBytes bytes → Passed bytes →
     word_bytes id ≡ take 8 (drop 7 bytes) → number_bytes offset ≡ take 16 (drop 15 bytes) →
-    offset ≡ big_number 16 (drop 15 bytes) → counts ≡ stated_counts bytes →
+    offset ≡ big_number 16 (drop 15 bytes) → counts ≡ stated_counts bytes → id < 2 ^ 64 → offset < 2 ^ 128 →
     IsHeadOf bytes (get_or bytes 5 0) (get_or bytes 6 0) id offset counts
-head-is bytes id offset counts small p word number offset-is counts-is =
+head-is bytes id offset counts small p word number offset-is counts-is id-fits offset-fits =
     let long = p.long in
     let front = piece 4 43 0 bytes in
     let fifth = one-byte 42 4 bytes (omega arith) in
@@ -121,5 +121,7 @@ head-is bytes id offset counts small p word number offset-is counts-is =
       most_parties = p.most_parties;
       inside = p.party;
       odd = ap (λ n. n % 2) offset-is ∙ p.odd;
+      word = id-fits;
+      key = offset-fits;
       within = rw counts-is p.within;
     }

@@ -13,7 +13,7 @@ use Rattle.share_types.specs.declared.records.KeyBit.{KeyBit}
 use Rattle.dealer_files.specs.Part.{Part, counts_of}
 use Rattle.dealer_files.specs.File.{word_bytes, number_bytes, key_bytes, mult_bytes, shared_bytes, key_bit_bytes, record_bytes, file_of, key_bit_size}
 use Rattle.dealer_files.specs.Checks.{stated_counts}
-use Rattle.dealer_files.specs.Laws.{FileIsOfOnePart}
+use Rattle.dealer_files.specs.Laws.{MultFits, SharedFits, KeyBitFits, FileIsOfOnePart}
 use Rattle.dealer_files.proofs.Whole.{length-records, mult-size, shared-size, key-size, key_bit-size, counts-stated, head-drop}
 
 word-same : (x y : ℕ) → x < 2 ^ 64 → y < 2 ^ 64 → word_bytes x ≡ word_bytes y → x ≡ y
@@ -54,9 +54,6 @@ records-same f size P (x ∷ xs) (y ∷ ys) one n p q g h e =
     (All-tail (λ z. length (f z) ≡ size) x xs p) (All-tail (λ z. length (f z) ≡ size) y ys q)
     (All-tail P x xs g) (All-tail P y ys h) both.1)
 
-abbrev MultFits : MultTriple → Type 0
-MultFits t = (t.a < 2 ^ 64) × (t.b < 2 ^ 64) × (t.c < 2 ^ 64)
-
 word-size : (n : ℕ) → length (word_bytes n) ≡ 8
 unfolding word_bytes
 word-size n = refl
@@ -70,7 +67,7 @@ mult-same t u p q e =
     let d = word-same t.c u.c p.2 q.2 second.1 in
     λ i. record { a = a i; b = b i; c = d i }
 
-shared-same : (s u : SharedBit) → s.word < 2 ^ 64 → u.word < 2 ^ 64 → shared_bytes s ≡ shared_bytes u → s ≡ u
+shared-same : (s u : SharedBit) → SharedFits s → SharedFits u → shared_bytes s ≡ shared_bytes u → s ≡ u
 shared-same s u p q e =
     let both = fronts 1 (once s.bit ∷ []) (once u.bit ∷ []) (word_bytes s.word) (word_bytes u.word) refl refl e in
     let bit = once-same s.bit u.bit (ap (λ ys. get_or ys 0 0) both.0) in
@@ -80,10 +77,11 @@ shared-same s u p q e =
 key-same : (k l : Key) → k.0 < 2 ^ 128 → l.0 < 2 ^ 128 → key_bytes k ≡ key_bytes l → k ≡ l
 key-same k l p q e = let n = number-same k.0 l.0 p q e in λ i. record { 0 = n i }
 
-abbrev KeyBitFits : ℕ → KeyBit → Type 0
-KeyBitFits parties k = (length k.times ≡ parties) × All (λ key. key.0 < 2 ^ 128) k.times
+-- as many keys as parties, of 128 bits each
+abbrev KeysFit : ℕ → KeyBit → Type 0
+KeysFit parties k = (length k.times ≡ parties) × KeyBitFits k
 
-key_bit-same : (parties : ℕ) (k l : KeyBit) → KeyBitFits parties k → KeyBitFits parties l →
+key_bit-same : (parties : ℕ) (k l : KeyBit) → KeysFit parties k → KeysFit parties l →
     key_bit_bytes k ≡ key_bit_bytes l → k ≡ l
 key_bit-same parties k l p q e =
     let both = fronts 1 (once k.bit ∷ []) (once l.bit ∷ []) (flat_map key_bytes k.times) (flat_map key_bytes l.times) refl refl e in
@@ -130,10 +128,10 @@ one-part bytes p q of_p of_q is_p is_q =
     let third = fronts (9 * length p.shared) (flat_map shared_bytes p.shared) (flat_map shared_bytes q.shared) _ _ s (omega arith) second.1 in
     let mult = records-same mult_bytes 24 MultFits p.mult q.mult mult-same mults (mult-size p.mult) (mult-size q.mult)
     of_p.mult of_q.mult first.0 in
-    let shared = records-same shared_bytes 9 (λ s. s.word < 2 ^ 64) p.shared q.shared shared-same shareds
+    let shared = records-same shared_bytes 9 SharedFits p.shared q.shared shared-same shareds
     (shared-size p.shared) (shared-size q.shared) of_p.shared of_q.shared third.0 in
     let owners-2 : All (λ k. length k.times ≡ p.parties) q.keys = λ i d h. is_q.part.each_owner i d h ∙ sym parties.0 in
-    let keys = records-same key_bit_bytes (key_bit_size p.parties) (KeyBitFits p.parties) p.keys q.keys (key_bit-same p.parties) key_counts
+    let keys = records-same key_bit_bytes (key_bit_size p.parties) (KeysFit p.parties) p.keys q.keys (key_bit-same p.parties) key_counts
     (key_bit-size p.parties p.keys is_p.part.each_owner) (key_bit-size p.parties q.keys owners-2)
     (λ i d h. (is_p.part.each_owner i d h, of_p.keys i d h)) (λ i d h. (owners-2 i d h, of_q.keys i d h)) third.1 in
     part-same p q parties.0 parties.1 id offset mult second.0 shared keys

@@ -1,5 +1,5 @@
 -- What is known of a file while it is read.
-use Rattle.std.specs.Prelude.{◌≡◌, ℕ, ◌<◌, ◌≤◌, ◌*◌, ◌%◌, List, length, take, drop, slice_index}
+use Rattle.std.specs.Prelude.{◌≡◌, ℕ, ◌<◌, ◌≤◌, ◌*◌, ◌%◌, ◌^◌, List, length, take, drop, slice_index}
 use Rattle.byteorder.specs.Endian.{big_number}
 use Rattle.mot_base.specs.Limits.{least_parties, most_parties, most_file_bytes}
 use Rattle.share_types.specs.declared.needs.Needs.{Needs}
@@ -17,7 +17,7 @@ pub record Passed (bytes : List ℕ) : Type 0 where
   pub odd : big_number 16 (drop 15 bytes) % 2 ≡ 1
   pub within : stated_length bytes ≤ most_file_bytes
 
--- the file begins with this head, which passes its checks
+-- the file begins with this head, which passes its checks, and whose id is a word and its offset a key
 pub record IsHeadOf (bytes : List ℕ) (parties party id offset : ℕ) (counts : Needs) : Type 0 where
   pub long : 47 ≤ length bytes
   pub spelled : take 47 bytes ≡ head_bytes parties party id offset counts
@@ -27,6 +27,8 @@ pub record IsHeadOf (bytes : List ℕ) (parties party id offset : ℕ) (counts :
   pub most_parties : parties ≤ most_parties
   pub inside : party < parties
   pub odd : offset % 2 ≡ 1
+  pub word : id < 2 ^ 64
+  pub key : offset < 2 ^ 128
   pub within : file_length parties counts ≤ most_file_bytes
 
 -- each of so many records of that size begins with a byte that is at most 1

@@ -1,9 +1,10 @@
-ghost use Rattle.std.specs.Prelude.{◌≡◌, ℕ, ◌<◌, ◌≤◌, ◌+◌, ◌*◌, length, drop, take, slice_index, OnOk, IfOk, IfErr, IfSome, None, All};
+ghost use Rattle.std.specs.Prelude.{◌≡◌, ℕ, ◌<◌, ◌≤◌, ◌+◌, ◌*◌, ◌^◌, length, drop, take, slice_index, OnOk, IfOk, IfErr, IfSome, None, All};
 ghost use Rattle.std.specs.List.{flat_map};
 ghost use Rattle.share_types.specs.Bits.{once};
 ghost use Rattle.dealer_files.specs.File.{mult_bytes, shared_bytes, key_bytes, key_bit_bytes, key_bit_size, file_length, bits_start, shared_start, keys_start, IsFile};
 ghost use Rattle.dealer_files.specs.Reading.{IsHeadOf, AreFlags};
 ghost use Rattle.dealer_files.specs.Checks.{stated_counts, stated_parties, stated_length, head_fault, IsAbove, IsWrongByte, IsFirst, IsRecordsFault, IsFaultOf};
+ghost use Rattle.dealer_files.specs.Laws.{MultFits, SharedFits, KeyBitFits, IsOfNumbers};
 
 use crate::head::{HEAD_LENGTH, Head, check_head, dealer_len, read_head};
 use crate::numbers::{read_number, read_word};
@@ -27,6 +28,7 @@ const KEY_LENGTH: usize = 16;
 /// The part of which the bytes are the file, or else the first fault that they show.
 pub fn read_dealer(alloc: Global, bytes: &[u8]) -> Result<DealerPart, DealerError>
     ensures part { IfOk result (λ part. IsFile bytes.now part) }
+    ensures numbers { IfOk result (λ part. IsOfNumbers part) }
     ensures fault { IfErr result (λ fault. IsFaultOf bytes.now fault) }
 {
     check_head(bytes)?;
@@ -131,7 +133,8 @@ fn read_part(alloc: Global, bytes: &[u8], head: &Head) -> Result<DealerPart, NoM
     requires head { IsHeadOf bytes.now head.now.parties head.now.party head.now.id head.now.offset head.now.counts }
     requires length { length bytes.now ≡ stated_length bytes.now }
     requires right { (place : ℕ) → IsWrongByte bytes.now place → ⊥ }
-    ensures { IfOk result (λ part. IsFile bytes.now part) }
+    ensures part { IfOk result (λ part. IsFile bytes.now part) }
+    ensures numbers { IfOk result (λ part. IsOfNumbers part) }
 {
     let counts = &head.counts;
     let (first, second, third) = starts(counts);
@@ -156,6 +159,7 @@ fn read_mults(alloc: Global, bytes: &[u8], count: u32) -> Result<Vec<MultTriple>
     requires { length bytes.now ≡ 24 * count }
     ensures bytes { IfOk result (λ list. flat_map mult_bytes list.items ≡ bytes.now) }
     ensures count { IfOk result (λ list. length list.items ≡ count) }
+    ensures numbers { IfOk result (λ list. All MultFits list.items) }
 {
     let mut list = Vec::with_capacity(alloc, count as usize)?;
     let mut rest = bytes;
@@ -169,7 +173,8 @@ fn read_mults(alloc: Global, bytes: &[u8], count: u32) -> Result<Vec<MultTriple>
 
 fn read_mult(bytes: &[u8]) -> MultTriple
     requires { length bytes.now ≡ 24 }
-    ensures { mult_bytes result ≡ bytes.now }
+    ensures bytes { mult_bytes result ≡ bytes.now }
+    ensures numbers { MultFits result }
 {
     MultTriple {
         a: read_word(bytes),
@@ -184,6 +189,7 @@ fn read_shareds(alloc: Global, bytes: &[u8], count: u32) -> Result<Vec<SharedBit
     requires flags { AreFlags bytes.now 9 count }
     ensures bytes { IfOk result (λ list. flat_map shared_bytes list.items ≡ bytes.now) }
     ensures count { IfOk result (λ list. length list.items ≡ count) }
+    ensures numbers { IfOk result (λ list. All SharedFits list.items) }
 {
     let mut list = Vec::with_capacity(alloc, count as usize)?;
     let mut rest = bytes;
@@ -198,7 +204,8 @@ fn read_shareds(alloc: Global, bytes: &[u8], count: u32) -> Result<Vec<SharedBit
 fn read_shared(bytes: &[u8]) -> SharedBit
     requires length { length bytes.now ≡ 9 }
     requires flag { slice_index bytes.now 0 ≤ 1 }
-    ensures { shared_bytes result ≡ bytes.now }
+    ensures bytes { shared_bytes result ≡ bytes.now }
+    ensures numbers { SharedFits result }
 {
     SharedBit {
         bit: read_flag(bytes),
@@ -226,6 +233,7 @@ fn read_key_bits(
     ensures bytes { IfOk result (λ list. flat_map key_bit_bytes list.items ≡ bytes.now) }
     ensures count { IfOk result (λ list. length list.items ≡ count) }
     ensures owners { IfOk result (λ list. All (λ k. length k.times ≡ parties) list.items) }
+    ensures numbers { IfOk result (λ list. All KeyBitFits list.items) }
 {
     let length = key_bit_length(parties);
     let mut list = Vec::with_capacity(alloc, count as usize)?;
@@ -243,6 +251,7 @@ fn read_key_bit(alloc: Global, bytes: &[u8], parties: u8) -> Result<KeyBit, NoMe
     requires flag { slice_index bytes.now 0 ≤ 1 }
     ensures bytes { IfOk result (λ k. key_bit_bytes k ≡ bytes.now) }
     ensures owners { IfOk result (λ k. length k.times ≡ parties) }
+    ensures numbers { IfOk result (λ k. KeyBitFits k) }
 {
     Ok(KeyBit {
         bit: read_flag(bytes),
@@ -255,13 +264,22 @@ fn read_keys(alloc: Global, bytes: &[u8], count: u8) -> Result<Vec<Key>, NoMemor
     requires { length bytes.now ≡ 16 * count }
     ensures bytes { IfOk result (λ list. flat_map key_bytes list.items ≡ bytes.now) }
     ensures count { IfOk result (λ list. length list.items ≡ count) }
+    ensures numbers { IfOk result (λ list. All (λ key. key.0 < 2 ^ 128) list.items) }
 {
     let mut list = Vec::with_capacity(alloc, usize::from(count))?;
     let mut rest = bytes;
     for _at in 0..count {
         let (front, after) = rest.split_at(KEY_LENGTH);
-        list.push(Key(read_number(front)))?;
+        list.push(read_key(front))?;
         rest = after;
     }
     Ok(list)
+}
+
+fn read_key(bytes: &[u8]) -> Key
+    requires { length bytes.now ≡ 16 }
+    ensures bytes { key_bytes result ≡ bytes.now }
+    ensures number { result.0 < 2 ^ 128 }
+{
+    Key(read_number(bytes))
 }

@@ -1,6 +1,7 @@
 use Rattle.std.proofs.Common.{◌≡◌, length, ap, ◌∙◌, take}
 use Rattle.std.proofs.lemmas.List.Elements.{All-push}
 use Rattle.dealer_files.specs.File.{key_bit_bytes, key_bit_size}
+use Rattle.dealer_files.specs.Laws.{KeyBitFits}
 use Rattle.dealer_files.proofs.Pieces.{read-more, flags-rest}
 use Rattle.dealer_files.proofs.read.read_key_bits.Goals as goal
 
@@ -15,4 +16,5 @@ loop-at-preserved c =
       flags-rest size c.args.count c.loop-at._at c.loop-at.rest.now c.loop-at-test.true was.1,
       All-push (λ k. length k.times ≡ c.args.parties) c.loop-at.list.items c.in_ok-read_key_bit.field-0 was.2
           c.in_ok-read_key_bit.ensures.owners,
+      All-push KeyBitFits c.loop-at.list.items c.in_ok-read_key_bit.field-0 was.3 c.in_ok-read_key_bit.ensures.numbers,
     )

@@ -47,8 +47,8 @@ new-requires c =
       owners = c.in_ok-keys.ensures.owners;
     })
 
-pub returns : goal.returns
-returns c =
+pub returns-clause-part : goal.returns-clause-part
+returns-clause-part c =
     let bytes = c.args.bytes.now in
     let head = c.args.head.now in
     let n = head.counts in
@@ -67,3 +67,12 @@ returns c =
       key_count = c.in_ok-keys.ensures.count;
       owners = c.in_ok-keys.ensures.owners;
     }))
+
+pub returns-clause-numbers : goal.returns-clause-numbers
+returns-clause-numbers c = rw c.new.ensures (record {
+  id = c.requires.head.word;
+  offset = c.requires.head.key;
+  mult = c.in_ok-mult.ensures.numbers;
+  shared = c.in_ok-shared.ensures.numbers;
+  keys = c.in_ok-keys.ensures.numbers;
+})

@@ -1,5 +1,7 @@
 use Rattle.std.proofs.Common.{◌∙◌, arith}
+use Rattle.std.proofs.lemmas.List.Elements.{All-push}
 use Rattle.dealer_files.specs.File.{shared_bytes}
+use Rattle.dealer_files.specs.Laws.{SharedFits}
 use Rattle.dealer_files.proofs.Pieces.{read-more, flags-front, flags-rest}
 use Rattle.dealer_files.proofs.read.read_shareds.Goals as goal
 
@@ -13,6 +15,7 @@ loop-at-preserved c =
     let was = c.loop-at.invariant in
     rw (c.in_ok-push.ensures.items, c.split_at.ensures.back) (
       read-more shared_bytes 9 c.args.count c.loop-at._at c.args.bytes.now c.loop-at.list.items c.loop-at.rest.now
-          c.read_shared.result c.loop-at-test.true was.0 (c.read_shared.ensures ∙ c.split_at.ensures.front),
+          c.read_shared.result c.loop-at-test.true was.0 (c.read_shared.ensures.bytes ∙ c.split_at.ensures.front),
       flags-rest 9 c.args.count c.loop-at._at c.loop-at.rest.now c.loop-at-test.true was.1,
+      All-push SharedFits c.loop-at.list.items c.read_shared.result was.2 c.read_shared.ensures.numbers,
     )
