@@ -1,11 +1,10 @@
--- Counts of edges that are not marked, and of items that wait.
-use Rattle.std.proofs.Common.{◌≡◌, ◌≢◌, ℕ, zero, suc, ◌+◌, ◌<◌, ◌≤◌, Bool, true, false, cond, eqb, not, List, [], ◌∷◌, length, get_or, replicate, refl, arith}
-use Rattle.std.specs.List.{count_by}
+-- Counts of edges that are not marked, and of items that are left.
+use Rattle.std.proofs.Common.{◌≡◌, ◌≢◌, ℕ, zero, suc, ◌+◌, ◌<◌, Bool, true, false, cond, eqb, not, List, [], ◌∷◌, length, get_or, replicate, refl, arith}
 use Rattle.std.proofs.lemmas.Bool.{false≢true, eq-eqb, ne_eqb}
 use Rattle.std.proofs.lemmas.List.Sums.{sum_by-cons}
 use Rattle.turn_core.specs.Graph.{places_from, places}
-use Rattle.turn_core.specs.Core.{Flags, IsIn, IsOut, with_one, size_of, left_of}
-use Rattle.turn_core.specs.Counters.{unmarked, is_waiting}
+use Rattle.turn_core.specs.Core.{Flags, IsIn, IsOut, with_one, left_of}
+use Rattle.turn_core.specs.Counters.{unmarked}
 
 -- 1 where a test passes, and 0 where it fails
 abbrev pub one_if : Bool → ℕ
@@ -68,47 +67,5 @@ unmarked-start k ts = unmarked_from-start 0 k ts
 
 -- ---- items
 
-pub size-cons : (b : Bool) (s : Flags) → size_of (b ∷ s) ≡ cond b 1 0 + size_of s
-size-cons b s = sum_by-cons (λ (flag : Bool). cond flag 1 0) b s
-
 pub left-cons : (b : Bool) (s : Flags) → left_of (b ∷ s) ≡ cond (not b) 1 0 + left_of s
 left-cons b s = sum_by-cons (λ (flag : Bool). cond (not flag) 1 0) b s
-
-pub waiting-cons : (n : ℕ) (xs : List ℕ) → count_by is_waiting (n ∷ xs) ≡ cond (is_waiting n) 1 0 + count_by is_waiting xs
-waiting-cons n xs = sum_by-cons (λ (x : ℕ). cond (is_waiting x) 1 0) n xs
-
--- an item that was handed out does not wait
-abbrev pub HaveEnded : Flags → List ℕ → Type 0
-HaveEnded s missing = (k : ℕ) → IsIn s k → get_or missing k 0 ≡ 0
-
--- the first item is handed out or waits, not both
-one_at_most : (b : Bool) (n : ℕ) → (b ≡ true → n ≡ 0) → cond b 1 0 + cond (is_waiting n) 1 0 ≤ 1
-one_at_most true zero ended = omega arith
-one_at_most true (suc n) ended = absurd (let e = ended refl in omega (arith, e))
-one_at_most false zero ended = omega arith
-one_at_most false (suc n) ended = omega arith
-
--- no more items are handed out or wait than there are
-pub at_most : (s : Flags) (missing : List ℕ) → length s ≡ length missing → HaveEnded s missing → size_of s + count_by is_waiting missing ≤ length missing
-at_most [] [] long ended = omega arith
-at_most [] (n ∷ ns) long ended = absurd (omega arith)
-at_most (b ∷ bs) [] long ended = absurd (omega arith)
-at_most (b ∷ bs) (n ∷ ns) long ended =
-    let rest = at_most bs ns (omega arith) (λ k here. ended (suc k) here) in
-    let first = one_at_most b n (ended 0) in
-    omega (arith, rest, first, size-cons b bs, waiting-cons n ns)
-
--- fewer, where one item neither was handed out nor waits
-pub fewer : (s : Flags) (missing : List ℕ) (k : ℕ) → length s ≡ length missing → HaveEnded s missing → k < length missing → IsOut s k → get_or missing k 0 ≡ 0 → size_of s + count_by is_waiting missing < length missing
-fewer [] [] k long ended within out free = absurd (omega arith)
-fewer [] (n ∷ ns) k long ended within out free = absurd (omega arith)
-fewer (b ∷ bs) [] k long ended within out free = absurd (omega arith)
-fewer (b ∷ bs) (n ∷ ns) zero long ended within out free =
-    let rest = at_most bs ns (omega arith) (λ k here. ended (suc k) here) in
-    let down : one_if b ≡ 0 = rw out refl in
-    let idle : one_if (is_waiting n) ≡ 0 = rw free refl in
-    omega (arith, rest, down, idle, size-cons b bs, waiting-cons n ns)
-fewer (b ∷ bs) (n ∷ ns) (suc k) long ended within out free =
-    let rest = fewer bs ns k (omega arith) (λ j here. ended (suc j) here) (omega arith) out free in
-    let first = one_at_most b n (ended 0) in
-    omega (arith, rest, first, size-cons b bs, waiting-cons n ns)

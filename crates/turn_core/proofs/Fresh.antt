@@ -1,18 +1,17 @@
 -- A core that has just begun.
-use Rattle.std.proofs.Common.{◌≡◌, ◌≢◌, ℕ, zero, suc, ◌+◌, ◌<◌, ◌≤◌, Bool, true, false, cond, List, [], ◌∷◌, ◌++◌, length, get_or, take, replicate, refl, sym, ap, ◌∙◌, subst, arith, ⊎_elim}
+use Rattle.std.proofs.Common.{◌≡◌, ◌≢◌, ℕ, zero, suc, ◌+◌, ◌<◌, ◌≤◌, true, false, List, [], ◌∷◌, ◌++◌, length, get_or, take, replicate, refl, sym, ap, ◌∙◌, subst, arith, ⊎_elim}
 use Rattle.std.proofs.Math.ListN.{set}
 use Rattle.std.specs.List.{count_by}
 use Rattle.std.proofs.lemmas.Bool.{false≢true, cases_eq}
 use Rattle.std.proofs.lemmas.List.{length-set, length-map, length_push, length-replicate, get_or_append_left, get_or_push, take_all}
 use Rattle.std.proofs.lemmas.List.Sums.{count_by_more_yes, count_by_more_no}
-use Rattle.std.proofs.lemmas.List.Folds.{sum_by-replicate}
 use Rattle.turn_core.specs.Graph.{Graph, IsSound, targets, incoming}
-use Rattle.turn_core.specs.Core.{size_of, at_start}
-use Rattle.turn_core.specs.Counters.{unmarked, is_waiting, IsQueue, AreMissing, IsTied}
+use Rattle.turn_core.specs.Core.{at_start}
+use Rattle.turn_core.specs.Counters.{unmarked, is_waiting, IsQueued, IsQueue, AreMissing, IsTied}
 use Rattle.turn_core.proofs.Counts.{unmarked-start}
 use Rattle.turn_core.proofs.Events.{none_in, starts}
 use Rattle.turn_core.proofs.Places.{places-short}
-use Rattle.turn_core.proofs.Ties.{pushed, pushed_once}
+use Rattle.turn_core.proofs.Ties.{pushed, pushed_once, is_pushed, still_queued}
 
 -- ---- the counters
 
@@ -48,18 +47,20 @@ incoming-short g k = omega (arith, places-short k (targets g), length-map g.edge
 -- the items before i whose counter is 0 are in the queue
 pub record IsQueueTo (missing queue : List ℕ) (len i : ℕ) : Type 0 where
   pub places : length queue ≡ length missing
-  pub all : len + count_by is_waiting (take i missing) ≡ i
+  pub room : len + count_by is_waiting (take i missing) ≤ i
   pub queued : (a : ℕ) → a < len → get_or queue a 0 < i
   pub queued_has_all : (a : ℕ) → a < len → get_or missing (get_or queue a 0) 0 ≡ 0
   pub once : (a b : ℕ) → a < b → b < len → get_or queue a 0 ≢ get_or queue b 0
+  pub kept : (k : ℕ) → k < i → get_or missing k 0 ≡ 0 → IsQueued queue len k
 
 pub queue-none : (missing : List ℕ) → IsQueueTo missing (replicate (length missing) 0) 0 0
 queue-none missing = record {
   places = length-replicate (length missing) 0;
-  all = refl;
+  room = omega arith;
   queued = λ a h. absurd (omega (arith, h));
   queued_has_all = λ a h. absurd (omega (arith, h));
   once = λ a b less h same. omega (arith, h);
+  kept = λ k h none. absurd (omega (arith, h));
 }
 
 waits : (n : ℕ) → 0 < n → is_waiting n ≡ true
@@ -73,15 +74,18 @@ waits_not n none = rw none refl
 pub queue-skip : (missing queue : List ℕ) (len i : ℕ) → i < length missing → 0 < get_or missing i 0 → IsQueueTo missing queue len i → IsQueueTo missing queue len (i + 1)
 queue-skip missing queue len i within some q = record {
   places = q.places;
-  all = omega (arith, q.all, count_by_more_yes is_waiting missing i 0 within (waits (get_or missing i 0) some));
+  room = omega (arith, q.room, count_by_more_yes is_waiting missing i 0 within (waits (get_or missing i 0) some));
   queued = λ a h. omega (arith, q.queued a h);
   queued_has_all = q.queued_has_all;
   once = q.once;
+  kept = λ k h none.
+      let other : k ≢ i = λ same. let at : get_or missing i 0 ≡ 0 = subst (λ (m : ℕ). get_or missing m 0 ≡ 0) same none in omega (arith, at, some) in
+      q.kept k (omega (arith, h, other)) none;
 }
 
 -- there is room for one item more
 pub queue-room : (missing queue : List ℕ) (len i : ℕ) → i < length missing → IsQueueTo missing queue len i → len < length queue
-queue-room missing queue len i within q = omega (arith, q.all, q.places, within)
+queue-room missing queue len i within q = omega (arith, q.room, q.places, within)
 
 -- an item that is ready
 pub queue-one : (missing queue : List ℕ) (len i : ℕ) → i < length missing → get_or missing i 0 ≡ 0 → IsQueueTo missing queue len i → IsQueueTo missing (set queue len i) (len + 1) (i + 1)
@@ -89,25 +93,28 @@ queue-one missing queue len i within none q =
     let fits = queue-room missing queue len i within q in
     record {
       places = length-set queue len i ∙ q.places;
-      all = omega (arith, q.all, count_by_more_no is_waiting missing i 0 within (waits_not (get_or missing i 0) none));
+      room = omega (arith, q.room, count_by_more_no is_waiting missing i 0 within (waits_not (get_or missing i 0) none));
       queued = pushed (λ k. k < i + 1) queue len i fits (λ a h. omega (arith, q.queued a h)) (omega arith);
       queued_has_all = pushed (λ k. get_or missing k 0 ≡ 0) queue len i fits q.queued_has_all none;
       once = pushed_once queue len i fits q.once (λ a h same. omega (arith, q.queued a h, same));
+      kept = λ k h here.
+          ⊎_elim
+          (λ (same : k ≡ i). is_pushed queue len i k fits same)
+          (λ (other : k ≢ i). still_queued queue len i k (q.kept k (omega (arith, h, other)) here))
+          (cases_eq k i);
     }
 
 pub queue-all : (missing queue : List ℕ) (len : ℕ) → IsQueueTo missing queue len (length missing) → IsQueue missing queue len
 queue-all missing queue len q = record {
   places = q.places;
-  all = subst (λ (xs : List ℕ). len + count_by is_waiting xs ≡ length missing) (take_all (length missing) missing (omega arith)) q.all;
+  room = subst (λ (xs : List ℕ). len + count_by is_waiting xs ≤ length missing) (take_all (length missing) missing (omega arith)) q.room;
   queued = q.queued;
   queued_has_all = q.queued_has_all;
   once = q.once;
+  kept = q.kept;
 }
 
 -- ---- the whole core
-
-no_size : (n : ℕ) → size_of (replicate n false) ≡ 0
-no_size n = sum_by-replicate (λ (flag : Bool). cond flag 1 0) n false ∙ omega arith
 
 pub begins : (g : Graph) (missing queue : List ℕ) (len : ℕ) → IsSound g → AreMissing g missing → IsQueue missing queue len → IsTied (at_start g) missing queue len
 begins g missing queue len sound m q = record {
@@ -119,9 +126,9 @@ begins g missing queue len sound m q = record {
       m.each k h ∙ sym (unmarked-start k (targets g))
       ∙ ap (λ (n : ℕ). unmarked k (targets g) (replicate n false)) many;
   ended = λ k here. absurd (false≢true (sym (none_in g.items k) ∙ here));
-  all = omega (arith, q.all, no_size g.items, m.as_many);
+  room = omega (arith, q.room, m.as_many);
   queued = λ i h. omega (arith, q.queued i h, m.as_many);
-  queued_new = λ i h. none_in g.items (get_or queue i 0);
   queued_has_all = q.queued_has_all;
   once = q.once;
+  kept = λ k item out none. q.kept k (omega (arith, item, m.as_many)) none;
 }

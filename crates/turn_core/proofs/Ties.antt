@@ -1,16 +1,16 @@
 -- Counters and queue stay those of the sets: one lemma for each way in which the core changes.
-use Rattle.std.proofs.Common.{◌≡◌, ◌≢◌, ℕ, zero, suc, ◌+◌, ◌-◌, ◌<◌, ◌⊎◌, Bool, true, false, cond, List, length, get_or, refl, sym, ap, ◌∙◌, subst, arith, ⊎_elim}
+use Rattle.std.proofs.Common.{◌≡◌, ◌≢◌, ℕ, zero, suc, ◌+◌, ◌-◌, ◌<◌, ◌≤◌, ◌⊎◌, Bool, true, false, not, cond, List, length, get_or, refl, sym, ap, ◌∙◌, subst, arith, ⊎_elim}
 use Rattle.std.proofs.Math.ListN.{set}
 use Rattle.std.specs.List.{count_by}
-use Rattle.std.proofs.lemmas.Bool.{cases_eq, cases_Bool}
+use Rattle.std.proofs.lemmas.Bool.{false≢true, cases_eq, cases_lt, cases_Bool}
 use Rattle.std.proofs.lemmas.List.{length-set, length-map, get_or-set_same, get_or-set_other, get_or_read}
 use Rattle.std.proofs.lemmas.List.Sums.{sum_by-set, get_or-le-sum_by}
 use Rattle.turn_core.specs.declared.edge.TheConstants.{TERMINAL}
 use Rattle.turn_core.specs.Graph.{target, targets}
-use Rattle.turn_core.specs.Core.{Flags, IsIn, IsOut, with_one, size_of, Core, Arrives, HandsOut, Leaves, IsReady, May, after, IsCore}
-use Rattle.turn_core.specs.Counters.{unmarked, is_waiting, IsTied}
-use Rattle.turn_core.proofs.Events.{with_one-cases, stays}
-use Rattle.turn_core.proofs.Counts.{one_if, unmarked-same, unmarked-other, unmarked-none, unmarked-all, fewer}
+use Rattle.turn_core.specs.Core.{Flags, IsIn, IsOut, with_one, Core, Arrives, HandsOut, Leaves, IsReady, May, after, IsCore}
+use Rattle.turn_core.specs.Counters.{unmarked, is_waiting, IsQueued, IsTied}
+use Rattle.turn_core.proofs.Events.{in-with_one, with_one-cases, stays}
+use Rattle.turn_core.proofs.Counts.{one_if, unmarked-same, unmarked-other, unmarked-none, unmarked-all}
 
 -- ---- a mark
 
@@ -77,11 +77,11 @@ marks-terminal c missing queue len e mark end =
           let other : target c.graph e ≢ k = λ same. omega (arith, end, mark.tied.core.sound.items_fit, same) in
           mark.tied.counts k h ∙ sym (unmarked-other k (targets c.graph) c.marked e TERMINAL (omega (arith, within, many_targets c)) other);
       ended = mark.tied.ended;
-      all = mark.tied.all;
+      room = mark.tied.room;
       queued = mark.tied.queued;
-      queued_new = mark.tied.queued_new;
       queued_has_all = mark.tied.queued_has_all;
       once = mark.tied.once;
+      kept = mark.tied.kept;
     }
 
 pub some_missing : (c : Core) (missing queue : List ℕ) (len e t : ℕ) → Holds c missing queue len e t → 0 < get_or missing t 0
@@ -148,18 +148,21 @@ marks-waiting c missing queue len e t holds still =
       places = tied.places;
       counts = lowered-counts c missing queue len e t holds;
       ended = lowered-ended c missing queue len e t holds;
-      all = omega (arith, tied.all, change, waits (get_or missing t 0) (omega arith), waits (get_or missing t 0 - 1) still);
+      room = omega (arith, tied.room, change, waits (get_or missing t 0) (omega arith), waits (get_or missing t 0 - 1) still);
       queued = tied.queued;
-      queued_new = tied.queued_new;
       queued_has_all = λ i within. get_or-set_other missing t (get_or queue i 0) (get_or missing t 0 - 1) 0 (queued-other c missing queue len e t i holds within) ∙ tied.queued_has_all i within;
       once = tied.once;
+      kept = λ k item out none.
+          let here : get_or (lowered missing t) t 0 ≡ get_or missing t 0 - 1 = get_or-set_same missing t (get_or missing t 0 - 1) 0 (omega (arith, tied.counters, holds.is_item)) in
+          let other : k ≢ t = λ same. let at : get_or (lowered missing t) t 0 ≡ 0 = subst (λ (m : ℕ). get_or (lowered missing t) m 0 ≡ 0) same none in omega (arith, at, here, still) in
+          tied.kept k item out (sym (get_or-set_other missing t k (get_or missing t 0 - 1) 0 other) ∙ none);
     }
 
 -- there is room in the queue while an item waits
 pub room : (c : Core) (missing queue : List ℕ) (len t : ℕ) → IsTied c missing queue len → t < c.graph.items → 0 < get_or missing t 0 → len < c.graph.items
 room c missing queue len t tied within some =
     let one = get_or-le-sum_by (λ (x : ℕ). cond (is_waiting x) 1 0) missing t 0 (omega (arith, tied.counters)) in
-    omega (arith, tied.all, one, waits (get_or missing t 0) some)
+    omega (arith, tied.room, one, waits (get_or missing t 0) some)
 
 -- the queue with one item more
 push-old : (queue : List ℕ) (len t i : ℕ) → i < len → get_or (set queue len t) i 0 ≡ get_or queue i 0
@@ -187,6 +190,13 @@ pushed_once queue len t fits old new i j less within same =
     old i j less below (sym first ∙ same ∙ push-old queue len t j below))
     (cases_eq j len)
 
+-- the new item is in the queue, and those that were there are
+pub is_pushed : (queue : List ℕ) (len t k : ℕ) → len < length queue → k ≡ t → IsQueued (set queue len t) (len + 1) k
+is_pushed queue len t k fits same = (len, omega arith, get_or-set_same queue len t 0 fits ∙ sym same)
+
+pub still_queued : (queue : List ℕ) (len t k : ℕ) → IsQueued queue len k → IsQueued (set queue len t) (len + 1) k
+still_queued queue len t k q = (q.0, omega (arith, q.1), push-old queue len t q.0 q.1 ∙ q.2)
+
 -- the item may be handed out now
 pub marks-ready : (c : Core) (missing queue : List ℕ) (len e t : ℕ) → Holds c missing queue len e t → get_or missing t 0 - 1 ≡ 0 → IsTied (with_mark c e) (lowered missing t) (set queue len t) (len + 1)
 marks-ready c missing queue len e t holds none =
@@ -196,70 +206,105 @@ marks-ready c missing queue len e t holds none =
     let change = waiting-lowered missing t (get_or missing t 0 - 1) counted in
     let fits : len < length queue = omega (arith, tied.places, room c missing queue len t tied holds.is_item some) in
     let zero_at : get_or (lowered missing t) t 0 ≡ 0 = get_or-set_same missing t (get_or missing t 0 - 1) 0 counted ∙ none in
-    let out : IsOut c.handed t =
-    ⊎_elim
-    (λ (inside : IsIn c.handed t). absurd (let at = tied.ended t inside in omega (arith, at, some)))
-    (λ (outside : IsOut c.handed t). outside)
-    (cases_Bool (get_or c.handed t false)) in
     record {
       core = marks-core c e tied.core holds.mark.may;
       counters = length-set missing t (get_or missing t 0 - 1) ∙ tied.counters;
       places = length-set queue len t ∙ tied.places;
       counts = lowered-counts c missing queue len e t holds;
       ended = lowered-ended c missing queue len e t holds;
-      all = omega (arith, tied.all, change, waits (get_or missing t 0) some, waits_not (get_or missing t 0 - 1) none);
+      room = omega (arith, tied.room, change, waits (get_or missing t 0) some, waits_not (get_or missing t 0 - 1) none);
       queued = pushed (λ k. k < c.graph.items) queue len t fits tied.queued holds.is_item;
-      queued_new = pushed (λ k. IsOut c.handed k) queue len t fits tied.queued_new out;
       queued_has_all = pushed (λ k. get_or (lowered missing t) k 0 ≡ 0) queue len t fits
           (λ i within. get_or-set_other missing t (get_or queue i 0) (get_or missing t 0 - 1) 0 (queued-other c missing queue len e t i holds within) ∙ tied.queued_has_all i within) zero_at;
       once = pushed_once queue len t fits tied.once (λ i within. queued-other c missing queue len e t i holds within);
+      kept = λ k item out here.
+          ⊎_elim
+          (λ (same : k ≡ t). is_pushed queue len t k fits same)
+          (λ (other : k ≢ t). still_queued queue len t k (tied.kept k item out (sym (get_or-set_other missing t k (get_or missing t 0 - 1) 0 other) ∙ here)))
+          (cases_eq k t);
     }
 
 -- ---- a handing out
 
--- an item of the queue may be handed out
-pub is_ready : (c : Core) (missing queue : List ℕ) (len i k : ℕ) → IsTied c missing queue len → i < len → k ≡ get_or queue i 0 → IsReady c k
-is_ready c missing queue len i k tied within here =
-    let item : k < c.graph.items = subst (λ (m : ℕ). m < c.graph.items) (sym here) (tied.queued i within) in
-    let none : get_or missing k 0 ≡ 0 = subst (λ (m : ℕ). get_or missing m 0 ≡ 0) (sym here) (tied.queued_has_all i within) in
-    record {
-      is_item = item;
-      is_new = subst (λ (m : ℕ). IsOut c.handed m) (sym here) (tied.queued_new i within);
-      has_all = λ e short to. unmarked-none k (targets c.graph) c.marked e TERMINAL (sym (tied.counts k item) ∙ none) (tied.core.edges ∙ sym (many_targets c)) (omega (arith, short, many_targets c)) to;
-    }
+-- a flag that is not up
+pub is_down : (b : Bool) → not b ≡ true → b ≡ false
+is_down true up = absurd (false≢true up)
+is_down false up = refl
 
-pub size-set : (s : Flags) (k : ℕ) → k < length s → IsOut s k → size_of (with_one s k) ≡ size_of s + 1
-size-set s k within out =
-    let change = sum_by-set (λ (flag : Bool). cond flag 1 0) s k true false within in
-    let down : one_if (get_or s k false) ≡ 0 = rw out refl in
-    omega (arith, change, down)
+-- an item whose counter is 0 and that was not handed out may be
+pub is_ready : (c : Core) (missing queue : List ℕ) (len k : ℕ) → IsTied c missing queue len → k < c.graph.items → get_or missing k 0 ≡ 0 → IsOut c.handed k → IsReady c k
+is_ready c missing queue len k tied item none out = record {
+  is_item = item;
+  is_new = out;
+  has_all = λ e short to. unmarked-none k (targets c.graph) c.marked e TERMINAL (sym (tied.counts k item) ∙ none) (tied.core.edges ∙ sym (many_targets c)) (omega (arith, short, many_targets c)) to;
+}
 
--- the last item of the queue is handed out
-pub hands_out : (c : Core) (missing queue : List ℕ) (len k : ℕ) → IsTied c missing queue (len + 1) → k ≡ get_or queue len 0 → IsTied (after c (HandsOut k)) missing queue len
-hands_out c missing queue len k tied here =
-    let ready = is_ready c missing queue (len + 1) len k tied (omega arith) here in
-    let bigger = size-set c.handed k (omega (arith, tied.core.items, ready.is_item)) ready.is_new in
-    let other : (i : ℕ) → i < len → get_or queue i 0 ≢ k = λ i within same. tied.once i len within (omega arith) (same ∙ here) in
-    record {
-      core = stays c (HandsOut k) tied.core ready;
-      counters = tied.counters;
-      places = tied.places;
-      counts = tied.counts;
-      ended = λ j inside.
-          ⊎_elim
-          (λ (same : j ≡ k). ap (λ (m : ℕ). get_or missing m 0) (same ∙ here) ∙ tied.queued_has_all len (omega arith))
-          (λ was. tied.ended j was)
-          (with_one-cases c.handed k j inside);
-      all = omega (arith, tied.all, bigger);
-      queued = λ i within. tied.queued i (omega arith);
-      queued_new = λ i within. get_or-set_other c.handed k (get_or queue i 0) true false (other i within) ∙ tied.queued_new i (omega arith);
-      queued_has_all = λ i within. tied.queued_has_all i (omega arith);
-      once = λ i j less within. tied.once i j less (omega arith);
-    }
+-- the last item of the queue may be handed out where it was not
+pub last_ready : (c : Core) (missing queue : List ℕ) (left k : ℕ) → IsTied c missing queue left → 0 < left → IsOut c.handed (get_or queue (left - 1) 0) → k ≡ get_or queue (left - 1) 0 → IsReady c k
+last_ready c missing queue left k tied some out here =
+    let last : left - 1 < left = omega (arith, some) in
+    let ready = is_ready c missing queue left (get_or queue (left - 1) 0) tied (tied.queued (left - 1) last) (tied.queued_has_all (left - 1) last) out in
+    subst (λ (m : ℕ). IsReady c m) (sym here) ready
+
+-- an item that may be handed out has a counter of 0
+pub none_missing : (c : Core) (missing queue : List ℕ) (len k : ℕ) → IsTied c missing queue len → IsReady c k → get_or missing k 0 ≡ 0
+none_missing c missing queue len k tied ready =
+    tied.counts k ready.is_item ∙ unmarked-all k (targets c.graph) c.marked TERMINAL (tied.core.edges ∙ sym (many_targets c)) (λ e short to. ready.has_all e (omega (arith, short, many_targets c)) to)
+
+-- what is not in a set was not in it without one number
+out_before : (s : Flags) (k j : ℕ) → IsOut (with_one s k) j → IsOut s j
+out_before s k j out =
+    ⊎_elim
+    (λ (inside : IsIn s j). absurd (false≢true (sym out ∙ in-with_one s k j inside)))
+    (λ (outside : IsOut s j). outside)
+    (cases_Bool (get_or s j false))
+
+-- an item of the queue that was not handed out is not dropped
+stays_queued : (handed : Flags) (queue : List ℕ) (len left k : ℕ) → IsOut handed k → ((i : ℕ) → left ≤ i → i < len → IsIn handed (get_or queue i 0)) → IsQueued queue len k → IsQueued queue left k
+stays_queued handed queue len left k out dropped q =
+    ⊎_elim
+    (λ (low : q.0 < left). (q.0, low, q.2))
+    (λ (high : left ≤ q.0).
+    let up : IsIn handed k = subst (λ (m : ℕ). IsIn handed m) q.2 (dropped q.0 high q.1) in
+    absurd (false≢true (sym out ∙ up)))
+    (cases_lt q.0 left)
+
+-- an item is handed out, and the queue stays
+pub hands_out : (c : Core) (missing queue : List ℕ) (len k : ℕ) → IsTied c missing queue len → IsReady c k → IsTied (after c (HandsOut k)) missing queue len
+hands_out c missing queue len k tied ready = record {
+  core = stays c (HandsOut k) tied.core ready;
+  counters = tied.counters;
+  places = tied.places;
+  counts = tied.counts;
+  ended = λ j inside.
+      ⊎_elim
+      (λ (same : j ≡ k). ap (λ (m : ℕ). get_or missing m 0) same ∙ none_missing c missing queue len k tied ready)
+      (λ was. tied.ended j was)
+      (with_one-cases c.handed k j inside);
+  room = tied.room;
+  queued = tied.queued;
+  queued_has_all = tied.queued_has_all;
+  once = tied.once;
+  kept = λ j item out none. tied.kept j item (out_before c.handed k j out) none;
+}
+
+-- without the items at the end of the queue that were handed out
+pub drops : (c : Core) (missing queue : List ℕ) (len left : ℕ) → IsTied c missing queue len → left ≤ len → ((i : ℕ) → left ≤ i → i < len → IsIn c.handed (get_or queue i 0)) → IsTied c missing queue left
+drops c missing queue len left tied fewer dropped = record {
+  core = tied.core;
+  counters = tied.counters;
+  places = tied.places;
+  counts = tied.counts;
+  ended = tied.ended;
+  room = omega (arith, tied.room, fewer);
+  queued = λ i within. tied.queued i (omega (arith, within, fewer));
+  queued_has_all = λ i within. tied.queued_has_all i (omega (arith, within, fewer));
+  once = λ i j less within. tied.once i j less (omega (arith, within, fewer));
+  kept = λ k item out none. stays_queued c.handed queue len left k out dropped (tied.kept k item out none);
+}
 
 -- with an empty queue no item may be handed out
 pub none_ready : (c : Core) (missing queue : List ℕ) → IsTied c missing queue 0 → (k : ℕ) → IsReady c k → ⊥
 none_ready c missing queue tied k ready =
-    let none : get_or missing k 0 ≡ 0 = tied.counts k ready.is_item ∙ unmarked-all k (targets c.graph) c.marked TERMINAL (tied.core.edges ∙ sym (many_targets c)) (λ e short to. ready.has_all e (omega (arith, short, many_targets c)) to) in
-    let less = fewer c.handed missing k (tied.core.items ∙ sym tied.counters) tied.ended (omega (arith, ready.is_item, tied.counters)) ready.is_new none in
-    omega (arith, less, tied.all, tied.counters)
+    let q = tied.kept k ready.is_item ready.is_new (none_missing c missing queue 0 k tied ready) in
+    omega (arith, q.1)

@@ -1,4 +1,4 @@
-ghost use Rattle.std.specs.Prelude.{◌≡◌, ◌⊎◌, ◌+◌, ◌<◌, ◌≤◌, ◌^◌, ℕ, List, not, length, map, get_or, false, IfOk, IfSome, IfNone};
+ghost use Rattle.std.specs.Prelude.{◌≡◌, ◌⊎◌, ◌+◌, ◌<◌, ◌≤◌, ◌^◌, ℕ, List, not, length, map, get_or, true, false, IfOk, IfSome, IfNone};
 ghost use Rattle.std.specs.List.{count_by};
 ghost use Rattle.turn_core.specs.declared.edge.TheConstants.{OUTSIDE};
 ghost use Rattle.turn_core.specs.Graph.{source, outgoing};
@@ -24,9 +24,11 @@ pub struct Turns<'d> {
     handed: Vec<bool>,
     /// how many edges to each item are not marked
     missing: Vec<u32>,
-    /// its first `len` places have the items that may be handed out
+    /// its first `len` places have the items that may be handed out, and some that were
     queue: Vec<u32>,
     len: usize,
+    /// the item behind the one that was handed out last
+    behind: u32,
 }
 
 impl<'d> Model for Turns<'d> {
@@ -59,6 +61,7 @@ impl<'d> Turns<'d> {
             missing,
             queue,
             len,
+            behind: 0,
         })
     }
 
@@ -79,19 +82,21 @@ impl<'d> Turns<'d> {
         self.mark(edge)
     }
 
-    /// Hands out an item that has all its edges and was not handed out. Which one is free.
+    /// Hands out an item that has all its edges and was not handed out. Which one is free. It is the one behind the one
+    /// before wherever that may be, so that a core that is drained goes over its graph in order.
     pub fn next(&mut self) -> Option<u32>
         ensures ready { IfSome result (λ item. IsReady self.old item) }
         ensures after { IfSome result (λ item. self.new ≡ after self.old (HandsOut item)) }
         ensures none { IfNone result ((item : ℕ) → IsReady self.old item → ⊥) }
         ensures same { IfNone result (self.new ≡ self.old) }
     {
-        if self.len == 0 {
-            return None;
+        if self.is_free(self.behind) {
+            let item = self.behind;
+            self.hand_out(item);
+            return Some(item);
         }
-        self.len -= 1;
-        let item = self.queue[self.len];
-        self.handed[item as usize] = true;
+        let item = self.queued()?;
+        self.hand_out(item);
         Some(item)
     }
 
@@ -138,6 +143,39 @@ impl<'d> Turns<'d> {
         }
     }
 
+    /// Whether there is an item of that number that may be handed out.
+    fn is_free(&self, item: u32) -> bool
+        ensures { result ≡ true → IsReady self.now item }
+    {
+        let place = item as usize;
+        if place >= self.missing.len() || self.missing[place] > 0 {
+            return false;
+        }
+        !self.handed[place]
+    }
+
+    /// The last item of the queue that may be handed out.
+    fn queued(&mut self) -> Option<u32>
+        ensures ready { IfSome result (λ item. IsReady self.old item) }
+        ensures none { IfNone result ((item : ℕ) → IsReady self.old item → ⊥) }
+        ensures same { self.new ≡ self.old }
+    {
+        self.len = places_left(&self.queue, self.len, &self.handed);
+        if self.len == 0 {
+            return None;
+        }
+        Some(self.queue[self.len - 1])
+    }
+
+    /// Hands out an item that may be.
+    fn hand_out(&mut self, item: u32)
+        requires { IsReady self.old item }
+        ensures { self.new ≡ after self.old (HandsOut item) }
+    {
+        self.handed[item as usize] = true;
+        self.behind = item + 1;
+    }
+
     /// Marks an edge. False where it was marked.
     fn mark(&mut self, edge: u32) -> bool
         requires { May self.old (Arrives edge) ⊎ May self.old (Leaves edge) }
@@ -163,6 +201,21 @@ impl<'d> Turns<'d> {
         self.len += 1;
         true
     }
+}
+
+/// How many places of a queue are left without the items at its end that were handed out.
+fn places_left(queue: &[u32], len: usize, handed: &[bool]) -> usize
+    requires places { len ≤ length queue.now }
+    requires items { (i : ℕ) → i < len → get_or queue.now i 0 < length handed.now }
+    ensures fewer { result ≤ len }
+    ensures dropped { (i : ℕ) → result ≤ i → i < len → IsIn handed.now (get_or queue.now i 0) }
+    ensures last { (i : ℕ) → result ≡ i + 1 → IsOut handed.now (get_or queue.now i 0) }
+{
+    let mut left = len;
+    while left > 0 && handed[queue[left - 1] as usize] {
+        left -= 1;
+    }
+    left
 }
 
 /// How many edges end at each item.
