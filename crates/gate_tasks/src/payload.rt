@@ -16,7 +16,7 @@ use std::alloc::{AllocError, Global};
 pub fn word_payload(alloc: Global, words: &[u64]) -> Result<Payload, NoMemory>
     ensures { IfOk result (λ payload. payload ≡ word_bytes words.now) }
 {
-    let mut bytes = Vec::with_capacity(alloc, words.len())?;
+    let mut bytes = Vec::with_capacity(alloc, words.len().saturating_mul(8))?;
     put_words(&mut bytes, words)?;
     Ok(Payload::new(bytes))
 }

@@ -1,16 +1,22 @@
 -- What a stage gives, edge by edge.
-use Rattle.std.proofs.Common.{◌≡◌, ℕ, ◌+◌, ◌<◌, ◌≤◌, List, [], ◌∷◌, ◌++◌, length, take, get_or, sym, subst, ⊎_elim}
-use Rattle.std.specs.Prelude.{slice_get}
+use Rattle.std.proofs.Common.{◌≡◌, ℕ, ◌+◌, ◌<◌, ◌≤◌, List, [], ◌∷◌, ◌++◌, length, take, get_or, replicate, Option, Some, None, sym, subst, ⊎_elim}
+use Rattle.std.specs.Prelude.{slice_get, IsSome}
 use Rattle.std.specs.List.{AllByRecursion}
-use Rattle.std.proofs.lemmas.Bool.{cases_lt}
+use Rattle.std.proofs.lemmas.Bool.{false≢true, cases_lt}
 use Rattle.std.proofs.lemmas.List.{take_more}
-use Rattle.std.proofs.lemmas.Option.{slice_get_past}
+use Rattle.std.proofs.lemmas.Option.{none-some, slice_get_past}
 use Rattle.task_pool.specs.Meanings.{AreMeanings}
 use Rattle.gate_tasks.specs.declared.stage.StageOut.{StageOut}
+use Rattle.gate_tasks.specs.declared.value.Value.{Value}
+use Rattle.gate_tasks.specs.declared.outgoing.Out.{Out}
+use Rattle.mot_base.specs.declared.Party.{Party}
+use Rattle.gate_tasks.specs.Party.{Payload}
 use Rattle.gate_tasks.proofs.Grown.{there_is}
 use Rattle.local_engine.specs.declared.item.Load.{Load}
+use Rattle.local_engine.specs.declared.item.Load.TheVariants.{Wire, Kept, Message}
 use Rattle.local_engine.specs.declared.cargo.Cargo.{Cargo}
-use Rattle.local_engine.specs.Meaning.{HasCargoAt, IsCargo, IsCargoAt}
+use Rattle.local_engine.specs.declared.cargo.Cargo.TheVariants as cargo
+use Rattle.local_engine.specs.Meaning.{Sends, HasCargoAt, IsCargo, IsCargoAt}
 use Rattle.local_engine.proofs.Valid.{all_at}
 
 means_push : {E : Type 0} (means : ℕ → E → Type 0) (es : List ℕ) (vs : List E) (e : ℕ) (v : E) → AreMeanings means es vs → means e v → AreMeanings means (es ++ e ∷ []) (vs ++ v ∷ [])
@@ -37,3 +43,21 @@ outputs_more given loads edges k old new d c all within are is more =
     let one = means_push means (take k edges) old e c are here in
     let two = subst (λ (es : List ℕ). AreMeanings means es (old ++ c ∷ [])) (sym (take_more edges k 0 within)) one in
     subst (λ (vs : List Cargo). AreMeanings means (take (k + 1) edges) vs) (sym more) two
+
+sends-none : (to : Party) (payload : Payload) → Sends [] to payload → ⊥
+sends-none to payload (i, o, is, same) = none-some o is.there
+
+-- where a stage gave its value alone, an edge carries that
+alone : (given : StageOut) (v : Value) (load : Option Load) → given.value ≡ Some v → given.carried ≡ None → given.out ≡ [] → HasCargoAt given load → IsCargoAt given load (cargo.Value v)
+alone given v None value carried out has = absurd has
+alone given v (Some (Wire g p)) value carried out has = value
+alone given v (Some (Kept g p)) value carried out has = absurd (false≢true (subst (λ o. IsSome o) carried has))
+alone given v (Some (Message g from to)) value carried out has =
+    let to_none : Sends [] to has.0 = subst (λ (os : List Out). Sends os to has.0) out has.1 in
+    absurd (sends-none to has.0 to_none)
+
+-- and all edges carry it
+pub all_alone : (given : StageOut) (v : Value) (loads : List Load) (edges : List ℕ) → given.value ≡ Some v → given.carried ≡ None → given.out ≡ [] → AllByRecursion (λ e. HasCargoAt given (slice_get loads e)) edges → AreMeanings (λ e c. IsCargoAt given (slice_get loads e) c) edges (replicate (length edges) (cargo.Value v))
+all_alone given v loads [] value carried out all = tt
+all_alone given v loads (e ∷ es) value carried out all =
+    (alone given v (slice_get loads e) value carried out all.0, all_alone given v loads es value carried out all.1)

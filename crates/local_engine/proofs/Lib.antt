@@ -15,3 +15,6 @@ pub mod Turns
 pub mod Lines
 pub mod Plainly
 pub mod Told
+pub mod Taking
+pub mod Seeding
+pub mod Turning

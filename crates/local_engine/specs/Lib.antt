@@ -6,3 +6,6 @@ pub mod Job
 pub mod Running
 pub mod Report
 pub mod Told
+pub mod Inputs
+pub mod OneSeed
+pub mod Turns

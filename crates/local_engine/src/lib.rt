@@ -16,6 +16,9 @@ mod run;
 mod work;
 
 pub use job::LocalJob;
-pub use laws::{bristol_outputs_are_told, mixed_outputs_are_told, told_bits_are_those_of_outputs};
+pub use laws::{
+    bristol_outputs_are_told, bristol_plans_take_inputs, jobs_of_seed_serve,
+    mixed_outputs_are_told, mixed_plans_take_inputs, told_bits_are_those_of_outputs, turns_are_few,
+};
 pub use report::PartyReport;
 pub use run::local_turns;

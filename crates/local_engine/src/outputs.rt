@@ -1,6 +1,6 @@
 //! What flows out of an item.
 
-ghost use Rattle.std.specs.Prelude.{◌≡◌, ℕ, List, Some, slice_get, IsSome, IfOk, IfSome};
+ghost use Rattle.std.specs.Prelude.{◌≡◌, ℕ, List, [], true, Some, None, slice_get, replicate, IsSome, IfOk, IfSome};
 ghost use Rattle.std.specs.List.{AllByRecursion};
 ghost use Rattle.task_pool.specs.Meanings.{AreMeanings};
 ghost use Rattle.local_engine.specs.declared.cargo.Cargo.TheVariants as cargo;
@@ -8,12 +8,52 @@ ghost use Rattle.local_engine.specs.Meaning.{Sends, HasCargo, IsCargo, HasCargoA
 
 use crate::cargo::Cargo;
 use crate::item::Load;
-use gate_tasks::{Out, StageOut};
+use gate_tasks::{Out, StageOut, Value};
 use mot_base::{NoMemory, Party};
 use std::alloc::Global;
 
 /// What the edges with these numbers carry, of what a stage gave.
 pub(crate) fn outputs(
+    alloc: Global,
+    loads: &[Load],
+    edges: &[u32],
+    given: &StageOut,
+) -> Result<Vec<Cargo>, NoMemory>
+    requires { AllByRecursion (λ e. HasCargoAt given.now (slice_get loads.now e)) edges.now }
+    ensures { IfOk result (λ outputs.
+        AreMeanings (λ e c. IsCargoAt given.now (slice_get loads.now e) c) edges.now outputs.items) }
+{
+    match &given.value {
+        Some(value) if gives_no_more(given) => {
+            let outputs = copies(alloc, value, edges.len())?;
+            Ok(outputs)
+        }
+        _ => each_output(alloc, loads, edges, given),
+    }
+}
+
+/// Whether a stage gave nothing beside its value, so that each edge carries that.
+fn gives_no_more(given: &StageOut) -> bool
+    ensures carried { result ≡ true → given.now.carried ≡ None }
+    ensures out { result ≡ true → given.now.out ≡ [] }
+{
+    given.carried.is_none() && given.out.as_slice().is_empty()
+}
+
+/// A value as often as that.
+fn copies(alloc: Global, value: &Value, count: usize) -> Result<Vec<Cargo>, NoMemory>
+    ensures { IfOk result (λ outputs. outputs.items ≡ replicate count (cargo.Value value.now)) }
+{
+    let mut outputs = Vec::with_capacity(alloc, count)?;
+    for _at in 0..count {
+        let copy = value.copy(alloc)?;
+        outputs.push(Cargo::Value(copy))?;
+    }
+    Ok(outputs)
+}
+
+/// What the edges with these numbers carry, each by what it is said to carry.
+fn each_output(
     alloc: Global,
     loads: &[Load],
     edges: &[u32],

@@ -1,7 +1,12 @@
-use Rattle.local_engine.proofs.Giving.{outputs_more}
+use Rattle.std.proofs.Common.{List, refl, sym, subst}
+use Rattle.std.specs.Prelude.{slice_get}
+use Rattle.task_pool.specs.Meanings.{AreMeanings}
+use Rattle.local_engine.specs.declared.cargo.Cargo.{Cargo}
+use Rattle.local_engine.specs.Meaning.{IsCargoAt}
+use Rattle.local_engine.proofs.Giving.{all_alone}
 use Rattle.local_engine.proofs.outputs.outputs.Goals as goal
 
-pub loop-edge-preserved : goal.loop-edge-preserved
-loop-edge-preserved c =
-    outputs_more c.args.given.now c.args.loads.now c.args.edges.now c.loop-edge.edge-index c.loop-edge.outputs.items c.push.new.self.items _ c.in_ok-output.output
-    c.requires c.loop-edge-test.true c.loop-edge.invariant c.in_ok-output.ensures c.in_ok-push.ensures.items
+pub returns-in_ok-outputs-in-Some : goal.returns-in_ok-outputs-in-Some
+returns-in_ok-outputs-in-Some c =
+    let all = all_alone c.args.given.now c.in-Some.value c.args.loads.now c.args.edges.now c.in-Some.is (c.if-gives_no_more.ensures.carried refl) (c.if-gives_no_more.ensures.out refl) c.requires in
+    subst (λ (vs : List Cargo). AreMeanings (λ e v. IsCargoAt c.args.given.now (slice_get c.args.loads.now e) v) c.args.edges.now vs) (sym c.in_ok-outputs-in-Some.ensures) all

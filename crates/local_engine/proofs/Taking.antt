@@ -1,0 +1,291 @@
+-- Each gate of a plan that takes an input takes it from the input's party, within the input's width.
+use Rattle.std.proofs.Common.{◌≡◌, ℕ, zero, suc, ◌+◌, ◌%◌, ◌<◌, ◌≤◌, Bool, true, false, cond, List, [], ◌∷◌, ◌++◌, length, take, Option, Some, None, refl, sym, ap, ◌∙◌, subst, arith}
+use Rattle.std.specs.Prelude.{slice_get, slice_index, IsSome}
+use Rattle.std.specs.Option.{unwrap_or}
+use Rattle.std.proofs.lemmas.List.{length-append}
+use Rattle.share_types.specs.Sums.{each}
+use Rattle.share_types.specs.declared.sharing.Sharing.{Sharing}
+use Rattle.share_types.specs.declared.sharing.Sharing.TheVariants as sharing
+use Rattle.share_types.specs.declared.sharing.WireType.{WireType}
+use Rattle.circuit_values.specs.declared.receiver.Receiver.TheVariants.{All}
+use Rattle.circuit_values.specs.Table.{Input}
+use Rattle.mixed_circuit.specs.declared.language.Operation.{Operation}
+use Rattle.mixed_circuit.specs.declared.language.Operation.TheVariants.{InputWord, InputBits, ConstWord, ConstBits, Add, Sub, Mul, AddConst, MulConst, Xor, And, Not, Slice, Join, A2Y, A2B, B2Y, Y2B, B2A, Y2A, Output}
+use Rattle.mixed_circuit.specs.declared.operand.Operand.{Operand}
+use Rattle.mixed_circuit.specs.Language.{domain_of, widths_of, is_in, gives, states, is_name_slot, is_owner_slot, is_width_slot}
+use Rattle.mixed_circuit.specs.Circuit.{Circuit, Statement, wire_type, width_of}
+use Rattle.mixed_circuit.specs.Line.{Parts, width_given}
+use Rattle.mixed_circuit.specs.Said.{IsSaid, IsCircuit}
+use Rattle.mixed_circuit.specs.Table.{inputs_of, input_entry, owner_of}
+use Rattle.mixed_circuit.proofs.ListLemmas.{same_some}
+use Rattle.mixed_circuit.proofs.SaysLemmas.{said-by}
+use Rattle.bristol_reader.specs.Circuit as bristol
+use Rattle.bristol_reader.specs.Circuit.{output_wires}
+use Rattle.bristol_reader.specs.Table as bristol_table
+use Rattle.bristol_reader.specs.declared.kind.BristolKind.{BristolKind}
+use Rattle.bristol_reader.specs.declared.kind.BristolKind.TheVariants as kind
+use Rattle.gate_plan.specs.Gate as plan
+use Rattle.gate_plan.specs.Gate.{Kind, Gate, InA, InB}
+use Rattle.gate_plan.specs.Lowering.{Source, kind_made, source_of, wire_handled, width_handled, all_built, lowered_before}
+use Rattle.gate_plan.specs.Bristol.{bit_gate, input_gates, kind_gates, Wiring, with_bristol, wired_before, output_gates}
+use Rattle.gate_plan.proofs.GatesLemmas.{row_at, gate_kind, gate_at, some_at, next_gate, handled_own}
+use Rattle.gate_tasks.specs.Honest.{Taken, taken_by}
+use Rattle.gate_tasks.specs.Stage.{taken_from}
+use Rattle.local_engine.specs.Inputs.{TakesFrom, MixedPlansTakeInputs, BristolPlansTakeInputs}
+use Rattle.local_engine.proofs.Lists.{at_left, at_right}
+
+-- gates that take no inputs but those of a table
+abbrev TakeOf : List Input → List Gate → Type 0
+TakeOf inputs gates =
+    (g : ℕ) (gate : Gate) (t : Taken) → slice_get gates g ≡ Some gate → taken_by gate.kind ≡ Some t →
+    TakesFrom inputs gate t
+
+take_both : (inputs : List Input) (xs ys : List Gate) → TakeOf inputs xs → TakeOf inputs ys →
+    TakeOf inputs (xs ++ ys)
+take_both inputs [] ys first second g gate t there e = second g gate t there e
+take_both inputs (x ∷ xs) ys first second zero gate t there e = first zero gate t there e
+take_both inputs (x ∷ xs) ys first second (suc g) gate t there e =
+    take_both inputs xs ys (λ h other u there e. first (suc h) other u there e) second g gate t there e
+
+take_one : (inputs : List Input) (gate : Gate) →
+    ((t : Taken) → taken_by gate.kind ≡ Some t → TakesFrom inputs gate t) → TakeOf inputs (gate ∷ [])
+take_one inputs gate own zero other t there e =
+    let same : gate ≡ other = same_some gate other there in
+    subst (λ (u : Gate). TakesFrom inputs u t) same (own t (ap (λ (u : Gate). taken_by u.kind) same ∙ e))
+take_one inputs gate own (suc g) other t there e = cc
+
+-- ---- mixed circuits
+
+-- the gate of an input takes the whole input
+record IsTaking (op : Operation) (v : Source) (kind : Kind) (t : Taken) : Type 0 where
+  owner : states is_owner_slot op ≡ true
+  party : t.party ≡ v.party
+  k : t.k ≡ v.k
+  from : taken_from kind ≡ 0
+
+taking : (op : Operation) (v : Source) (kind : Kind) (t : Taken) → kind_made op v ≡ Some kind →
+    taken_by kind ≡ Some t → IsTaking op v kind t
+taking InputWord v kind t m e =
+    let is : InA v.party v.k ≡ kind = same_some _ kind m in
+    let taken = same_some _ t (ap taken_by is ∙ e) in
+    record {
+      owner = refl;
+      party = sym (ap (λ (u : Taken). u.party) taken);
+      k = sym (ap (λ (u : Taken). u.k) taken);
+      from = sym (ap taken_from is);
+    }
+taking InputBits v kind t m e =
+    let is : InB v.party v.k 0 ≡ kind = same_some _ kind m in
+    let taken = same_some _ t (ap taken_by is ∙ e) in
+    record {
+      owner = refl;
+      party = sym (ap (λ (u : Taken). u.party) taken);
+      k = sym (ap (λ (u : Taken). u.k) taken);
+      from = sym (ap taken_from is);
+    }
+taking Output v kind t m e = let contrary = sym (either v.is_word) ∙ (ap taken_by (same_some _ kind m) ∙ e) in cc
+  where
+    either : (b : Bool) → taken_by (cond b (plan.OutA v.x v.to) (plan.OutB v.x v.to)) ≡ None
+    either true = refl
+    either false = refl
+taking ConstWord v kind t m e = let contrary = ap taken_by (same_some _ kind m) ∙ e in cc
+taking ConstBits v kind t m e = let contrary = ap taken_by (same_some _ kind m) ∙ e in cc
+taking Add v kind t m e = let contrary = ap taken_by (same_some _ kind m) ∙ e in cc
+taking Sub v kind t m e = let contrary = ap taken_by (same_some _ kind m) ∙ e in cc
+taking Mul v kind t m e = let contrary = ap taken_by (same_some _ kind m) ∙ e in cc
+taking AddConst v kind t m e = let contrary = ap taken_by (same_some _ kind m) ∙ e in cc
+taking MulConst v kind t m e = let contrary = ap taken_by (same_some _ kind m) ∙ e in cc
+taking Xor v kind t m e = let contrary = ap taken_by (same_some _ kind m) ∙ e in cc
+taking And v kind t m e = let contrary = ap taken_by (same_some _ kind m) ∙ e in cc
+taking Not v kind t m e = let contrary = ap taken_by (same_some _ kind m) ∙ e in cc
+taking Slice v kind t m e = let contrary = ap taken_by (same_some _ kind m) ∙ e in cc
+taking Join v kind t m e = let contrary = ap taken_by (same_some _ kind m) ∙ e in cc
+taking A2Y v kind t m e = cc
+taking A2B v kind t m e = cc
+taking B2Y v kind t m e = cc
+taking Y2B v kind t m e = cc
+taking B2A v kind t m e = cc
+taking Y2A v kind t m e = cc
+
+-- an input has a name, and its value is as wide as its line states
+record IsInput (op : Operation) (given : Sharing) (width stated : ℕ) : Type 0 where
+  named : states is_name_slot op ≡ true
+  wide : width_of (wire_type (gives op given) width) ≡ stated
+
+input_is : (op : Operation) (given : Sharing) (parts : Parts) (os : List Operand) (width stated : ℕ) →
+    states is_owner_slot op ≡ true → is_in (domain_of op) given ≡ true →
+    width_given (widths_of op) parts os ≡ Some width →
+    parts.width ≡ stated → (states is_width_slot op ≡ false → stated ≡ 64) → IsInput op given width stated
+input_is InputWord sharing.A parts os width stated owner domain wide same bare =
+    record { named = refl; wide = sym (bare refl) }
+input_is InputBits sharing.B parts os width stated owner domain wide same bare =
+    record { named = refl; wide = sym (same_some parts.width width wide) ∙ same }
+input_is InputBits sharing.Y parts os width stated owner domain wide same bare =
+    record { named = refl; wide = sym (same_some parts.width width wide) ∙ same }
+input_is InputWord sharing.B parts os width stated owner domain wide same bare = cc
+input_is InputWord sharing.Y parts os width stated owner domain wide same bare = cc
+input_is InputBits sharing.A parts os width stated owner domain wide same bare = cc
+input_is ConstWord given parts os width stated owner domain wide same bare = cc
+input_is ConstBits given parts os width stated owner domain wide same bare = cc
+input_is Add given parts os width stated owner domain wide same bare = cc
+input_is Sub given parts os width stated owner domain wide same bare = cc
+input_is Mul given parts os width stated owner domain wide same bare = cc
+input_is AddConst given parts os width stated owner domain wide same bare = cc
+input_is MulConst given parts os width stated owner domain wide same bare = cc
+input_is Xor given parts os width stated owner domain wide same bare = cc
+input_is And given parts os width stated owner domain wide same bare = cc
+input_is Not given parts os width stated owner domain wide same bare = cc
+input_is Slice given parts os width stated owner domain wide same bare = cc
+input_is Join given parts os width stated owner domain wide same bare = cc
+input_is A2Y given parts os width stated owner domain wide same bare = cc
+input_is A2B given parts os width stated owner domain wide same bare = cc
+input_is B2Y given parts os width stated owner domain wide same bare = cc
+input_is Y2B given parts os width stated owner domain wide same bare = cc
+input_is B2A given parts os width stated owner domain wide same bare = cc
+input_is Y2A given parts os width stated owner domain wide same bare = cc
+input_is Output given parts os width stated owner domain wide same bare = cc
+
+some_there : (o : Option ℕ) → IsSome o → (party : ℕ) × (o ≡ Some party)
+some_there None some = cc
+some_there (Some party) some = (party, refl)
+
+-- the line of an input states a party
+owner_there : (parties : ℕ) (before : List Statement) (s : Statement) → IsSaid parties before s →
+    states is_owner_slot s.shape.operation ≡ true → (party : ℕ) × (s.shape.party ≡ Some party)
+owner_there parties before s said owner =
+    let by = said-by (record { parties = parties; statements = before }) said.words s said.is in
+    let same = ap (λ (t : Statement). t.shape.operation) by.means.is in
+    let there = some_there by.parts.party (by.stated.whole.owner (ap (states is_owner_slot) (sym same) ∙ owner)) in
+    (there.0, ap (λ (t : Statement). t.shape.party) by.means.is ∙ there.1)
+
+-- the entry of a statement stands behind those of the statements before it
+entry_there : (ss : List Statement) (n : ℕ) (s : Statement) (x : Input) → slice_get ss n ≡ Some s →
+    slice_get (input_entry s (owner_of s.shape)) 0 ≡ Some x →
+    slice_get (inputs_of ss) (length (inputs_of (take n ss))) ≡ Some x
+entry_there [] n s x there e = cc
+entry_there (u ∷ ss) zero s x there e =
+    at_left (input_entry u (owner_of u.shape)) (inputs_of ss) 0 x
+    (subst (λ (y : Statement). slice_get (input_entry y (owner_of y.shape)) 0 ≡ Some x) (sym (same_some u s there)) e)
+entry_there (u ∷ ss) (suc n) s x there e =
+    let own = input_entry u (owner_of u.shape) in
+    ap (slice_get (own ++ inputs_of ss)) (length-append own (inputs_of (take n ss)))
+    ∙ at_right own (inputs_of ss) (length (inputs_of (take n ss))) x (entry_there ss n s x there e)
+
+module _ (c : Circuit) (circuit : IsCircuit c) (built : all_built c ≡ true) where
+  abbrev all : List Statement
+  all = c.statements
+
+  take_here : (n : ℕ) (s : Statement) (there : slice_get all n ≡ Some s) (t : Taken) →
+      taken_by (gate_at c circuit built n s there).kind ≡ Some t →
+      TakesFrom (inputs_of all) (gate_at c circuit built n s there) t
+  take_here n s there t e =
+      let row = row_at c circuit built n s there in
+      let kind = gate_kind c circuit built n s there in
+      let is = taking s.shape.operation (source_of c.parties all n s) kind.0 t kind.1 e in
+      let owner = owner_there c.parties (take n all) s (circuit.each n s there) is.owner in
+      let entry : Input = record { name = s.name; party = record { 0 = owner.0 }; width = s.shape.width } in
+      let owned : owner_of s.shape ≡ Some owner.0 = ap (λ (b : Bool). cond b s.shape.party None) is.owner ∙ owner.1 in
+      let input =
+      input_is s.shape.operation row.sharing row.parts row.operands row.width s.shape.width
+      is.owner row.domain row.wide row.same_width row.bare in
+      let w : WireType = wire_type (gives s.shape.operation row.sharing) row.width in
+      let own : s.wire ≡ Some w = row.wire ∙ ap (λ (b : Bool). cond b (Some w) None) input.named in
+      let wide : width_handled (wire_handled all s) ≡ s.shape.width =
+      ap width_handled (handled_own c circuit built n s w there own).0 ∙ input.wide in
+      let from = is.from in
+      record {
+        input = entry;
+        there = ap (slice_get (inputs_of all)) is.k
+            ∙ entry_there all n s entry there (ap (λ (o : Option ℕ). slice_get (input_entry s o) 0) owned);
+        party = sym (is.party ∙ ap (λ (o : Option ℕ). unwrap_or o 0) owner.1);
+        within = omega (arith, from, wide);
+      }
+
+  take_before : (n : ℕ) → n ≤ length all → TakeOf (inputs_of all) (lowered_before c.parties all n)
+  take_before zero h = λ g gate t there e. cc
+  take_before (suc n) h =
+      let here = some_at c circuit built all n (omega (arith, h)) in
+      let gate = gate_at c circuit built n here.0 here.1 in
+      subst (TakeOf (inputs_of all)) (sym (next_gate c circuit built n here.0 here.1))
+      (take_both (inputs_of all) (lowered_before c.parties all n) (gate ∷ []) (take_before n (omega (arith, h)))
+      (take_one (inputs_of all) gate (take_here n here.0 here.1)))
+
+pub mixed_plans_take_inputs : MixedPlansTakeInputs
+mixed_plans_take_inputs c circuit built = take_before c circuit built (length c.statements) (omega arith)
+
+-- ---- circuits in Bristol Fashion
+
+take_each : (inputs : List Input) (n : ℕ) (f : ℕ → Gate) →
+    ((i : ℕ) → i < n → (t : Taken) → taken_by (f i).kind ≡ Some t → TakesFrom inputs (f i) t) → TakeOf inputs (each n f)
+take_each inputs zero f own = λ g gate t there e. cc
+take_each inputs (suc n) f own =
+    take_both inputs (each n f) (f n ∷ []) (take_each inputs n f (λ i h t e. own i (omega (arith, h)) t e))
+    (take_one inputs (f n) (λ t e. own n (omega arith) t e))
+
+take_inputs : (inputs : List Input) (parties k : ℕ) (widths : List ℕ) →
+    ((i : ℕ) (x : Input) → slice_get (bristol_table.inputs_from parties k widths) i ≡ Some x →
+    slice_get inputs (k + i) ≡ Some x) →
+    TakeOf inputs (input_gates parties k widths)
+take_inputs inputs parties k [] at = λ g gate t there e. cc
+take_inputs inputs parties k (w ∷ ws) at =
+    take_both inputs (each w (λ i. bit_gate (InB (k % parties) k i))) (input_gates parties (k + 1) ws)
+    (take_each inputs w (λ i. bit_gate (InB (k % parties) k i)) own)
+    (take_inputs inputs parties (k + 1) ws (λ i x there.
+    let place : k + suc i ≡ k + 1 + i = omega arith in
+    subst (λ (n : ℕ). slice_get inputs n ≡ Some x) place (at (suc i) x there)))
+  where
+    own : (i : ℕ) → i < w → (t : Taken) → taken_by (InB (k % parties) k i) ≡ Some t →
+        TakesFrom inputs (bit_gate (InB (k % parties) k i)) t
+    own i h t e =
+        let entry : Input =
+        record { name = bristol_table.input_name k; party = record { 0 = k % parties }; width = w } in
+        let place : k + 0 ≡ k = omega arith in
+        let found : slice_get inputs k ≡ Some entry =
+        subst (λ (n : ℕ). slice_get inputs n ≡ Some entry) place (at 0 entry refl) in
+        subst (λ (u : Taken). TakesFrom inputs (bit_gate (InB (k % parties) k i)) u) (same_some _ t e)
+        (record { input = entry; there = found; party = refl; within = omega (arith, h) })
+
+take_silent : (inputs : List Input) (gate : Gate) → taken_by gate.kind ≡ None → TakeOf inputs (gate ∷ [])
+take_silent inputs gate none = take_one inputs gate (λ t e. let contrary = sym none ∙ e in cc)
+
+take_kind : (inputs : List Input) (k : BristolKind) (x : ℕ → ℕ) (word outs : ℕ) →
+    TakeOf inputs (kind_gates k x word outs)
+take_kind inputs kind.Xor x word outs = take_silent inputs (bit_gate (plan.XorB (x 0) (x 1))) refl
+take_kind inputs kind.And x word outs = take_silent inputs (bit_gate (plan.AndB (x 0) (x 1))) refl
+take_kind inputs kind.Inv x word outs = take_silent inputs (bit_gate (plan.XorConstB (x 0) 1)) refl
+take_kind inputs kind.Eq x word outs = take_silent inputs (bit_gate (plan.ConstB word)) refl
+take_kind inputs kind.Eqw x word outs = λ g gate t there e. cc
+take_kind inputs kind.Mand x word outs =
+    take_each inputs outs (λ i. bit_gate (plan.AndB (x i) (x (outs + i)))) (λ i h t e. cc)
+
+take_next : (inputs : List Input) (v : Wiring) (o : Option bristol.Gate) → TakeOf inputs v.gates →
+    TakeOf inputs (with_bristol v o).gates
+take_next inputs v None before = before
+take_next inputs v (Some g) before =
+    let x : ℕ → ℕ = λ i. v.gate_of (slice_index g.ins i) in
+    take_both inputs v.gates (kind_gates g.kind x (slice_index g.ins 0) (length g.outs)) before
+    (take_kind inputs g.kind x (slice_index g.ins 0) (length g.outs))
+
+take_wired : (parties : ℕ) (c : bristol.Circuit) (n : ℕ) →
+    TakeOf (bristol_table.inputs_of parties c) (wired_before parties c n).gates
+take_wired parties c zero =
+    take_inputs (bristol_table.inputs_of parties c) parties 0 c.inputs (λ i x there.
+    let place : i ≡ 0 + i = omega arith in
+    subst (λ (n : ℕ). slice_get (bristol_table.inputs_of parties c) n ≡ Some x) place there)
+take_wired parties c (suc n) =
+    take_next (bristol_table.inputs_of parties c) (wired_before parties c n) (slice_get c.gates n)
+    (take_wired parties c n)
+
+take_outputs : (inputs : List Input) (gate_of : ℕ → ℕ) (wires : List ℕ) →
+    TakeOf inputs (output_gates gate_of wires)
+take_outputs inputs gate_of [] = λ g gate t there e. cc
+take_outputs inputs gate_of (w ∷ ws) =
+    take_both inputs (bit_gate (plan.OutB (gate_of w) All) ∷ []) (output_gates gate_of ws)
+    (take_silent inputs (bit_gate (plan.OutB (gate_of w) All)) refl) (take_outputs inputs gate_of ws)
+
+pub bristol_plans_take_inputs : BristolPlansTakeInputs
+bristol_plans_take_inputs parties c =
+    let v = wired_before parties c (length c.gates) in
+    take_both (bristol_table.inputs_of parties c) v.gates (output_gates v.gate_of (output_wires c))
+    (take_wired parties c (length c.gates))
+    (take_outputs (bristol_table.inputs_of parties c) v.gate_of (output_wires c))
