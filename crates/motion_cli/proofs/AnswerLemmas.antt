@@ -13,7 +13,8 @@ use Rattle.motion_cli.specs.Outcome.Kind.{report, refusal}
 use Rattle.motion_cli.specs.Settled.{IsUsage, IsDone, IsComplete, IsStored}
 use Rattle.motion_cli.proofs.PartsLemmas.{all_first}
 use Rattle.motion_cli.proofs.ProgramLemmas.{usage_written}
-use Rattle.motion_cli.proofs.SettledLemmas.{Refuses, Gives, IsSettled}
+use Rattle.motion_cli.proofs.StepLemmas.{Refuses, Gives}
+use Rattle.motion_cli.proofs.SettledLemmas.{IsSettled}
 
 -- The numbers of statuses.
 
@@ -22,6 +23,8 @@ code_one status.Done e = absurd (omega (arith, e))
 code_one status.Usage e = refl
 code_one status.Circuit e = absurd (omega (arith, e))
 code_one status.Values e = absurd (omega (arith, e))
+code_one status.Dealer e = absurd (omega (arith, e))
+code_one status.TooFew e = absurd (omega (arith, e))
 code_one status.File e = absurd (omega (arith, e))
 code_one status.Write e = absurd (omega (arith, e))
 code_one status.Memory e = absurd (omega (arith, e))
@@ -31,6 +34,8 @@ code_zero status.Done e = refl
 code_zero status.Usage e = absurd (omega (arith, e))
 code_zero status.Circuit e = absurd (omega (arith, e))
 code_zero status.Values e = absurd (omega (arith, e))
+code_zero status.Dealer e = absurd (omega (arith, e))
+code_zero status.TooFew e = absurd (omega (arith, e))
 code_zero status.File e = absurd (omega (arith, e))
 code_zero status.Write e = absurd (omega (arith, e))
 code_zero status.Memory e = absurd (omega (arith, e))
@@ -40,6 +45,8 @@ code_nine status.Done e = absurd (omega (arith, e))
 code_nine status.Usage e = absurd (omega (arith, e))
 code_nine status.Circuit e = absurd (omega (arith, e))
 code_nine status.Values e = absurd (omega (arith, e))
+code_nine status.Dealer e = absurd (omega (arith, e))
+code_nine status.TooFew e = absurd (omega (arith, e))
 code_nine status.File e = absurd (omega (arith, e))
 code_nine status.Write e = refl
 code_nine status.Memory e = absurd (omega (arith, e))

@@ -1,12 +1,30 @@
 -- Circuits of both languages.
-use Rattle.std.proofs.Common.{ℕ, ◌≡◌, ◌<◌, true, false, refl, subst, ◌↔◌}
-use Rattle.mot_base.specs.Limits.{most_gates}
+use Rattle.std.proofs.Common.{ℕ, zero, suc, ◌≡◌, ◌<◌, ◌≤◌, ◌++◌, Bool, true, false, cond, List, [], ◌∷◌, length, get_or, Option, Some, None, Result, Ok, Err, refl, sym, subst, ◌↔◌, arith}
+use Rattle.std.specs.Prelude.{All, option_map, IfOk, IsErrOf}
+use Rattle.std.specs.Option.{unwrap_or}
+use Rattle.mot_base.specs.Limits.{most_gates, most_width}
 use Rattle.share_types.specs.declared.sharing.Sharing.{Sharing}
 use Rattle.share_types.specs.declared.sharing.Sharing.TheVariants as share
 use Rattle.cli_words.specs.declared.table.Sharing as word
 use Rattle.cli_words.specs.declared.table.Sharing.TheVariants.{B, Y}
+use Rattle.share_types.specs.declared.sharing.WireType.{WireType}
+use Rattle.circuit_values.specs.Table.{Output}
+use Rattle.mixed_circuit.specs.Circuit as mixed
+use Rattle.mixed_circuit.specs.Circuit.{Statement, width_of, wire_at}
+use Rattle.mixed_circuit.specs.Language.{states, is_told_slot}
+use Rattle.mixed_circuit.specs.Said.{IsCircuit}
+use Rattle.mixed_circuit.specs.Table.{receiver_of, name_at, width_at, told_value, inputs_of, output_entry, outputs_among, outputs_of}
+use Rattle.mixed_circuit.specs.Wide.{AllWide}
+use Rattle.mixed_circuit.proofs.WidthLemmas.{circuit_wide}
 use Rattle.bristol_reader.specs.Circuit.{Circuit}
-use Rattle.gate_plan.specs.Bristol.{are_keys, all_bristol_gates}
+use Rattle.bristol_reader.specs.Table.{inputs_of as bristol_inputs}
+use Rattle.gate_plan.specs.declared.error.PlanError.{PlanError}
+use Rattle.gate_plan.specs.declared.error.PlanError.TheVariants.{NotBuilt}
+use Rattle.gate_plan.specs.Plan.{Gates}
+use Rattle.gate_plan.specs.Lowering.{all_built, lowered}
+use Rattle.gate_plan.specs.Bristol.{are_keys, all_bristol_gates, bristol_lowered}
+use Rattle.local_engine.specs.Inputs.{TakesInputs}
+use Rattle.local_engine.proofs.Taking.{mixed_plans_take_inputs, bristol_plans_take_inputs}
 use Rattle.motion_cli.specs.Circuits.{sharing_of, is_shared_by_xor}
 
 -- too many gates of a circuit in Bristol Fashion are told where its wires are shared by XOR
@@ -22,3 +40,55 @@ told_by_xor s given c Told same tells gates =
         Told gates ↔ ((is_shared_by_xor s ≡ true) × (most_gates < all_bristol_gates (are_keys (sharing_of s)) c) × (gates ≡ all_bristol_gates (are_keys (sharing_of s)) c))
     by B told = ((λ h. let p = told.0 h in (refl, p.1, p.2)), (λ q. told.1 (refl, q.1, q.2)))
     by Y told = ((λ h. let p = told.0 h in let is : share.Y ≡ share.B = p.0 in absurd cc), (λ q. let is : false ≡ true = q.0 in absurd cc))
+
+-- the outputs of a mixed circuit have at most 64 bits each
+width_there : (all : List Statement) (at : ℕ) → AllWide all → width_at all at ≤ most_width
+width_there all at wide = by (wire_at all at) refl
+  where
+    by : (o : Option WireType) → wire_at all at ≡ o → unwrap_or (option_map width_of o) 0 ≤ most_width
+    by None e = omega arith
+    by (Some wire) e = (wide at wire e).1
+
+entry_narrow : (all : List Statement) (s : Statement) (more : List Output) → AllWide all → All (λ o. o.width ≤ most_width) more →
+    All (λ o. o.width ≤ most_width) (output_entry all s ++ more)
+entry_narrow all s more wide rest = either (states is_told_slot s.shape.operation)
+  where
+    entry : Output
+    entry = record {
+      name = name_at all (told_value s);
+      to = receiver_of s.shape.party;
+      width = width_at all (told_value s);
+    }
+
+    one : (i : ℕ) (d : Output) → i < length (entry ∷ more) → (get_or (entry ∷ more) i d).width ≤ most_width
+    one zero d h = width_there all (told_value s) wide
+    one (suc i) d h = rest i d (omega (arith, h))
+
+    either : (b : Bool) → All (λ o. o.width ≤ most_width) (cond b (entry ∷ []) [] ++ more)
+    either true = one
+    either false = rest
+
+among_narrow : (all ss : List Statement) → AllWide all → All (λ o. o.width ≤ most_width) (outputs_among all ss)
+among_narrow all [] wide = λ i d h. absurd (omega (arith, h))
+among_narrow all (s ∷ more) wide = entry_narrow all s (outputs_among all more) wide (among_narrow all more wide)
+
+pub mixed_narrow : (c : mixed.Circuit) → IsCircuit c → All (λ o. o.width ≤ most_width) (outputs_of c)
+mixed_narrow c whole = among_narrow c.statements c.statements (circuit_wide c whole)
+
+-- the plan of a mixed circuit takes its inputs
+pub mixed_takes : (c : mixed.Circuit) (r : Result Gates PlanError) → IsCircuit c → (IsErrOf r NotBuilt ↔ (all_built c ≡ false)) →
+    IfOk r (λ plan. plan ≡ lowered c) → IfOk r (λ plan. TakesInputs (inputs_of c.statements) plan)
+mixed_takes c (Err e) whole not_built is = tt
+mixed_takes c (Ok plan) whole not_built is =
+    subst (λ (p : Gates). TakesInputs (inputs_of c.statements) p) (sym is) (mixed_plans_take_inputs c whole (built (all_built c) refl))
+  where
+    built : (b : Bool) → all_built c ≡ b → all_built c ≡ true
+    built true e = e
+    built false e = (let no_error : Ok plan ≡ Err NotBuilt = not_built.1 e in cc)
+
+-- and so does that of one in Bristol Fashion
+pub bristol_takes : (parties : ℕ) (c : Circuit) (r : Result Gates PlanError) → IfOk r (λ plan. plan ≡ bristol_lowered parties c) →
+    IfOk r (λ plan. TakesInputs (bristol_inputs parties c) plan)
+bristol_takes parties c (Err e) is = tt
+bristol_takes parties c (Ok plan) is =
+    subst (λ (p : Gates). TakesInputs (bristol_inputs parties c) p) (sym is) (bristol_plans_take_inputs parties c)

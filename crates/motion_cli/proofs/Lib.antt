@@ -1,9 +1,11 @@
 pub mod EndLemmas
-pub mod Built
-mod Dealing
-pub mod Running
 pub mod ReportLemmas
 pub mod ProgramLemmas
+pub mod StepLemmas
+pub mod DealerLemmas
+pub mod LocalLemmas
+pub mod TellingLemmas
+pub mod TakenLemmas
 pub mod SettledLemmas
 pub mod AnswerLemmas
 pub mod WordsLemmas

@@ -23,7 +23,9 @@ use Rattle.motion_cli.specs.Commands.{DealEnds}
 use Rattle.motion_cli.specs.Ending.{AreLeft, AreFirst, after_stores}
 use Rattle.motion_cli.specs.Outcome.{Outcome, file_refused, reported, memory}
 use Rattle.motion_cli.specs.Parts.{part_name, part_files, part_length, deal_files, deal_id, dealt_line, hexadecimal}
-use Rattle.motion_cli.specs.Refusal.{came_to, outcome_of}
+use Rattle.dealer_files.specs.declared.fault.DealerError.{DealerError}
+use Rattle.dealer_files.specs.declared.fault.DealerError.TheVariants as dealer
+use Rattle.motion_cli.specs.Refusal.{came_to, outcome_of, dealer_word, dealer_cause}
 
 -- What names hold after stores.
 
@@ -237,3 +239,15 @@ hexadecimal_text id =
 
 pub part_text : (prefix number rest : Text) → prefix ++ (codes "." ++ (number ++ rest)) ≡ (prefix ++ (codes "." ++ number)) ++ rest
 part_text prefix number rest = sym (append_assoc prefix (codes "." ++ number) rest)
+
+-- of a fault that is no wrong record the cause alone is told
+pub told_by_cause : (cause : DealerError) → ((place : ℕ) → cause ≢ dealer.RecordBits place) → dealer_cause cause ≡ dealer_word cause
+told_by_cause dealer.Magic other = refl
+told_by_cause dealer.Version other = refl
+told_by_cause dealer.Party other = refl
+told_by_cause dealer.OffsetEven other = refl
+told_by_cause dealer.Counts other = refl
+told_by_cause (dealer.RecordBits place) other = absurd (other place refl)
+told_by_cause dealer.Short other = refl
+told_by_cause dealer.Long other = refl
+told_by_cause dealer.NoMemory other = refl

@@ -1,23 +1,27 @@
 -- A circuit as a command meets it: a mixed one, or one in Bristol Fashion, whose words say how its wires are shared and
 -- for how many parties.
-use Rattle.std.specs.Prelude.{ℕ, ◌≡◌, Bool, true, false, List, Option, Some, None}
+use Rattle.std.specs.Prelude.{ℕ, ◌≡◌, ◌≤◌, Bool, true, false, List, Option, Some, None}
+use Rattle.mot_base.specs.Limits.{least_parties, most_parties}
 use Rattle.share_types.specs.declared.sharing.Sharing.{Sharing}
 use Rattle.share_types.specs.declared.sharing.Sharing.TheVariants as share
 use Rattle.cli_words.specs.declared.table.Sharing as word
 use Rattle.cli_words.specs.declared.table.Sharing.TheVariants.{B, Y}
 use Rattle.cli_words.specs.Request.{Bristol, bristol_of}
-use Rattle.circuit_values.specs.Table.{Input, Told}
+use Rattle.circuit_values.specs.Table.{Input, Output, Told}
 use Rattle.mixed_circuit.specs.Circuit as mixed
 use Rattle.mixed_circuit.specs.Grammar as mixed_text
 use Rattle.mixed_circuit.specs.Table as mixed_table
 use Rattle.mixed_circuit.specs.Eval as mixed_eval
+use Rattle.mixed_circuit.specs.Said as mixed_said
 use Rattle.bristol_reader.specs.Circuit as bristol
 use Rattle.bristol_reader.specs.Grammar as bristol_text
 use Rattle.bristol_reader.specs.Table as bristol_table
 use Rattle.bristol_reader.specs.Eval as bristol_eval
+use Rattle.bristol_reader.specs.Built as bristol_built
 use Rattle.gate_plan.specs.Plan.{Gates}
 use Rattle.gate_plan.specs.Lowering.{all_gates, all_built, lowered}
-use Rattle.gate_plan.specs.Bristol.{are_keys, all_bristol_gates, bristol_lowered}
+use Rattle.gate_plan.specs.Keeps.{KeepsEvaluation}
+use Rattle.gate_plan.specs.Bristol.{are_keys, all_bristol_gates, bristol_lowered, KeepsBristol}
 use Rattle.text_lines.specs.Text.{Text}
 use Rattle.motion_cli.specs.declared.circuit.Circuit.{Circuit as CircuitInMemory}
 use Rattle.motion_cli.specs.declared.circuit.Circuit.TheVariants as code
@@ -59,6 +63,21 @@ abbrev pub inputs_of : Circuit → List Input
 inputs_of (Mixed c) = mixed_table.inputs_of c.statements
 inputs_of (InBristol b c) = bristol_table.inputs_of b.parties c
 
+-- its outputs, with who is told each
+abbrev pub outputs_of : Circuit → List Output
+outputs_of (Mixed c) = mixed_table.outputs_of c
+outputs_of (InBristol b c) = bristol_table.outputs_of c
+
+-- how many parties it has
+abbrev pub parties_of : Circuit → ℕ
+parties_of (Mixed c) = c.parties
+parties_of (InBristol b c) = b.parties
+
+-- a circuit that was read is whole
+abbrev pub IsWhole : Circuit → Type 0
+IsWhole (Mixed c) = mixed_said.IsCircuit c
+IsWhole (InBristol b c) = bristol_built.IsCircuit c × (least_parties ≤ b.parties) × (b.parties ≤ most_parties)
+
 -- how the wires of a circuit in Bristol Fashion are shared
 abbrev pub sharing_of : word.Sharing → Sharing
 sharing_of B = share.B
@@ -82,6 +101,11 @@ is_built (InBristol b c) = is_shared_by_xor b.sharing
 abbrev pub plan_of : Circuit → Gates
 plan_of (Mixed c) = lowered c
 plan_of (InBristol b c) = bristol_lowered b.parties c
+
+-- a plan keeps the plain evaluation of a circuit
+abbrev pub Keeps : Circuit → Gates → Type 0
+Keeps (Mixed c) plan = KeepsEvaluation c plan
+Keeps (InBristol b c) plan = KeepsBristol c plan
 
 -- outputs are those of the plain evaluation of a circuit on the bits of its input values
 abbrev pub IsPlain : Circuit → List (List Bool) → List Told → Type 0

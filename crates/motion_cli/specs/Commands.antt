@@ -9,14 +9,15 @@ use Rattle.circuit_values.specs.Table.{Told}
 use Rattle.circuit_values.specs.Values as values
 use Rattle.text_lines.specs.Text.{Text}
 use Rattle.motion_cli.specs.declared.circuit.CircuitFault.{CircuitFault}
-use Rattle.motion_cli.specs.declared.report.Notation.TheVariants.{Decimal}
-use Rattle.motion_cli.specs.Circuits.{Circuit, Reads, FirstFault, inputs_of, gates_of, is_built, plan_of, IsPlain, notation_of}
+use Rattle.gate_tasks.specs.Party.{Own}
+use Rattle.motion_cli.specs.Circuits.{Circuit, Reads, FirstFault, inputs_of, parties_of, gates_of, is_built, plan_of, IsPlain, notation_of}
+use Rattle.motion_cli.specs.Dealer.{part_names, TakesParts}
 use Rattle.motion_cli.specs.Outcome.{Outcome, reported, line, at_line, file_refused, circuit_refused, values_refused}
 use Rattle.motion_cli.specs.Parts.{part_name, part_files, part_length, deal_files, deal_id, dealt_line}
 use Rattle.motion_cli.specs.Refusal.{circuit_cause, values_cause}
-use Rattle.motion_cli.specs.Report.{output_lines, parties_report, needs_report}
-use Rattle.motion_cli.specs.Run.{is_run_locally, parties_of}
-use Rattle.motion_cli.specs.Steps.{Fault, Loads, ReadsAs, Unless, StoresAll}
+use Rattle.motion_cli.specs.Report.{PartyRun, output_lines, runs_report, needs_report}
+use Rattle.motion_cli.specs.Run.{AreRuns, TellPlainly, AreSound, owns_in}
+use Rattle.motion_cli.specs.Steps.{Fault, Loads, LoadsAll, ReadsAs, Unless, StoresAll}
 
 -- the text of a file is read as a circuit, where the words say whether it is in Bristol Fashion
 abbrev pub ReadsCircuit : Option Bristol → Text → Text → (Circuit → Outcome → Type 0) → Outcome → Type 0
@@ -54,6 +55,12 @@ HasTooMany c = most_gates < gates_of c
 abbrev pub gates_refused : Text → Circuit → Outcome
 gates_refused name c = circuit_refused name (codes "gates " ++ line (decimal (gates_of c)))
 
+-- a circuit whose plan is not built, or that has too many gates
+abbrev pub UnlessUnplanned : Text → Circuit → (Outcome → Type 0) → Outcome → Type 0
+UnlessUnplanned name c next =
+    Unless (is_built c ≡ false) (circuit_refused name (line (codes "not built"))) (
+    Unless (HasTooMany c) (gates_refused name c) next)
+
 -- `plain`, once both files are loaded: too many gates are told before the values
 abbrev pub PlainReads : PlainRequest → Text → Text → Outcome → Type 0
 PlainReads request circuit values =
@@ -70,25 +77,39 @@ PlainEnds told rose request = LoadsBoth told rose request.circuit request.values
 abbrev pub NeedsReads : NeedsRequest → Text → Outcome → Type 0
 NeedsReads request circuit =
     ReadsCircuit request.bristol request.circuit circuit (λ c.
-    Unless (is_built c ≡ false) (circuit_refused request.circuit (line (codes "not built"))) (
-    Unless (HasTooMany c) (gates_refused request.circuit c) (λ end.
-    end ≡ reported (needs_report (plan_of c)))))
+    UnlessUnplanned request.circuit c (λ end.
+    end ≡ reported (needs_report (plan_of c))))
 
 -- `needs`: how many gates a circuit has, and how many correlations of each kind they need
 abbrev pub NeedsEnds : Option Holding → Type 0 → NeedsRequest → Outcome → Type 0
 NeedsEnds told rose request = Loads told rose request.circuit (NeedsReads request)
 
--- `local`, once both files are loaded: a circuit that is not built is told before the values
-abbrev pub LocalReads : LocalRequest → Text → Text → Outcome → Type 0
-LocalReads request circuit values =
-    ReadsCircuit request.bristol request.circuit circuit (λ c.
-    Unless (is_run_locally c ≡ false) (circuit_refused request.circuit (line (codes "not built"))) (
-    ReadsInputs request.values c values (λ v.
-    Reports c v (λ outputs. parties_report Decimal outputs (parties_of c)))))
+-- the joint run of all parties is reported: for each party what it is told, and the digest of what it sent. With sound
+-- parts each is told its outputs of the plain evaluation
+abbrev pub ReportsRun : Type 0 → Circuit → List (List Bool) → List Own → Outcome → Type 0
+ReportsRun sound c v owns end =
+    (runs : List PartyRun) × AreRuns c owns runs
+    × (sound → TellPlainly c v runs)
+    × (end ≡ reported (runs_report (notation_of c) runs))
 
--- `local`: for each party, the outputs that it is told
+-- `local`, once the circuit is read and all files are loaded: the files of the parts are judged behind the values
+abbrev pub LocalReads : LocalRequest → Text → Circuit → List Text → Outcome → Type 0
+LocalReads request values c files =
+    UnlessUnplanned request.circuit c (
+    ReadsInputs request.values c values (λ v.
+    TakesParts request c files (λ parts.
+    ReportsRun (AreSound request.dealer parts) c v (owns_in request c v parts))))
+
+-- `local`, once circuit and values are loaded: the circuit says how many files of parts there are
+abbrev pub LocalTexts : Option Holding → Type 0 → LocalRequest → Text → Text → Outcome → Type 0
+LocalTexts told rose request circuit values =
+    ReadsCircuit request.bristol request.circuit circuit (λ c.
+    LoadsAll told rose (part_names request.dealer (parties_of c)) (λ files.
+    LocalReads request values c files))
+
+-- `local`: a run of all parties
 abbrev pub LocalEnds : Option Holding → Type 0 → LocalRequest → Outcome → Type 0
-LocalEnds told rose request = LoadsBoth told rose request.circuit request.values (LocalReads request)
+LocalEnds told rose request = LoadsBoth told rose request.circuit request.values (LocalTexts told rose request)
 
 -- `deal`: parts that are too long are told by the name of the first, and else each party's part is stored
 abbrev pub DealEnds : Option Holding → Type 0 → DealRequest → Outcome → Type 0

@@ -1,6 +1,6 @@
 pub mod Circuits
 pub mod Commands
-pub mod Deal
+pub mod Dealer
 pub mod Ending
 pub mod Outcome
 pub mod Refusal

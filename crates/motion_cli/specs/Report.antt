@@ -1,10 +1,12 @@
 -- What commands report.
 use Rattle.std.specs.Prelude.{ℕ, zero, suc, ◌≤◌, Bool, false, List, [], ◌∷◌, ◌++◌, All, codes, filter, length, take, drop, ◌+◌, ◌/◌}
 use Rattle.std.specs.Fmt.{decimal, digits}
+use Rattle.std.specs.List.{flat_map}
+use Rattle.hex.specs.Hex.{encode_lower}
 use Rattle.mot_base.specs.Limits.{most_width}
 use Rattle.share_types.specs.Bits.{number}
 use Rattle.share_types.specs.declared.needs.Needs.{Needs}
-use Rattle.circuit_values.specs.Table.{Told, is_receiver}
+use Rattle.circuit_values.specs.Table.{Output, Told, is_receiver}
 use Rattle.text_lines.specs.Text.{Text}
 use Rattle.gate_plan.specs.Plan.{Gates}
 use Rattle.gate_plan.specs.Needs.{all_needs}
@@ -27,6 +29,11 @@ abbrev pub AreShort : Notation → List Told → Type 0
 AreShort Decimal outputs = All (λ t. length t.bits ≤ most_width) outputs
 AreShort Hexadecimal outputs = Unit {0}
 
+-- whether all outputs of a table can be
+abbrev pub AreNarrow : Notation → List Output → Type 0
+AreNarrow Decimal table = All (λ o. o.width ≤ most_width) table
+AreNarrow Hexadecimal table = Unit {0}
+
 -- the line of an output: its name and its value
 abbrev pub output_line : Notation → Told → Text
 output_line notation output = output.name ++ (codes " = " ++ line (written notation output.bits))
@@ -40,16 +47,20 @@ output_lines notation (output ∷ more) = output_line notation output ++ output_
 abbrev pub told_to : ℕ → List Told → List Told
 told_to party outputs = filter (λ output. is_receiver output.to (record { 0 = party })) outputs
 
--- what is reported of one party: its number and the outputs that it is told
-abbrev pub party_report : Notation → List Told → ℕ → Text
-party_report notation outputs party =
-    codes "party " ++ (decimal party ++ (line_end ++ output_lines notation (told_to party outputs)))
+-- what is reported of a party: its number, the outputs that it is told, and the digest of all that it sent
+pub record PartyRun : Type 0 where
+  pub party : ℕ
+  pub outputs : List Told
+  pub digest : List ℕ
 
--- what is reported of the first parties, one after another
-abbrev pub parties_report : Notation → List Told → ℕ → Text
-parties_report notation outputs zero = []
-parties_report notation outputs (suc party) =
-    parties_report notation outputs party ++ party_report notation outputs party
+abbrev pub run_report : Notation → PartyRun → Text
+run_report notation run =
+    codes "party " ++ (decimal run.party ++ (line_end
+    ++ (output_lines notation run.outputs ++ (codes "digest " ++ line (encode_lower run.digest)))))
+
+-- what is reported of all parties, one after another
+abbrev pub runs_report : Notation → List PartyRun → Text
+runs_report notation runs = flat_map (run_report notation) runs
 
 -- a count with its name
 abbrev pub count_line : Text → ℕ → Text

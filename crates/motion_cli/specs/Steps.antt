@@ -30,6 +30,27 @@ abbrev pub Loads : Option Holding → Type 0 → Text → (Text → Outcome → 
 Loads told rose name next end =
     IsUnloaded told rose name end ⊎ ((content : Text) × IsContent told name content × next content end)
 
+-- files are loaded, one for each name in order
+pub record AreContents (told : Option Holding) (names contents : List Text) : Type 0 where
+  pub count : length contents ≡ length names
+  pub each : (at : ℕ) (name content : Text) → slice_get names at ≡ Some name → slice_get contents at ≡ Some content →
+      IsContent told name content
+
+-- the first file that is not loaded: those before it are
+pub record IsFirstUnloaded (told : Option Holding) (rose : Type 0) (names : List Text) (end : Outcome) : Type 0 where
+  pub at : ℕ
+  pub name : Text
+  pub there : slice_get names at ≡ Some name
+  pub before : List Text
+  pub loaded : AreContents told (take at names) before
+  pub unloaded : IsUnloaded told rose name end
+
+-- files are loaded, one after another, and lead on with their contents
+abbrev pub LoadsAll : Option Holding → Type 0 → List Text → (List Text → Outcome → Type 0) → Outcome → Type 0
+LoadsAll told rose names next end =
+    IsFirstUnloaded told rose names end
+    ⊎ ((contents : List Text) × AreContents told names contents × next contents end)
+
 -- something is read: it shows its first fault, or it reads as this and leads on
 abbrev pub ReadsAs : {F C : Type 0} →
     (F → Type 0) → (F → Outcome) → (C → Type 0) → (C → Outcome → Type 0) → Outcome → Type 0

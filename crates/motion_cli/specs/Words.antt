@@ -6,13 +6,15 @@ use Rattle.cli_words.specs.Request.{Request, PlainRequest, NeedsRequest, DealReq
 use Rattle.cli_words.specs.declared.table.Command.{Command}
 use Rattle.cli_words.specs.declared.table.Command.TheVariants.{Plain, Needs, Deal, Local}
 use Rattle.cli_words.specs.declared.table.OptionName.{OptionName}
-use Rattle.cli_words.specs.declared.table.OptionName.TheVariants.{As, Parties}
+use Rattle.cli_words.specs.declared.table.OptionName.TheVariants.{As, Parties, Dealer}
 use Rattle.cli_words.specs.declared.table.Offer.{Offer}
 use Rattle.text_lines.specs.Text.{Text}
 
 -- the commands that are run, each with those of its options that are
 abbrev pub run_commands : List (Command × List OptionName)
-run_commands = (Plain, As ∷ Parties ∷ []) ∷ (Needs, As ∷ Parties ∷ []) ∷ (Deal, []) ∷ (Local, []) ∷ []
+run_commands =
+    (Plain, As ∷ Parties ∷ []) ∷ (Needs, As ∷ Parties ∷ []) ∷ (Deal, [])
+    ∷ (Local, As ∷ Parties ∷ Dealer ∷ []) ∷ []
 
 abbrev pub command_offered : Offer → Command × List OptionName
 command_offered offer = (offer.command, offer.options.now)

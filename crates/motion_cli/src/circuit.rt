@@ -1,16 +1,20 @@
 //! Circuits of both languages, as the commands meet them.
 
-ghost use Rattle.std.specs.Prelude.{◌≡◌, ◌<◌, ◌≤◌, ◌↔◌, ℕ, length, true, false, None, option_map, IfOk, IfErr, IsErrOf};
-ghost use Rattle.mot_base.specs.Limits.{most_file_bytes, most_gates};
+ghost use Rattle.std.specs.Prelude.{◌≡◌, ◌<◌, ◌≤◌, ◌↔◌, ℕ, length, true, false, None, All, option_map, IfOk, IfErr, IsErrOf};
+ghost use Rattle.mot_base.specs.Limits.{most_file_bytes, most_gates, most_width};
 ghost use Rattle.cli_words.specs.Request.{bristol_of};
 ghost use Rattle.circuit_values.specs.Table.{AreNamedApart};
 ghost use Rattle.circuit_values.specs.Values.{HaveWidths};
-ghost use Rattle.motion_cli.specs.Circuits.{circuit_of, Reads, FirstFault, IsFirstFault, inputs_of, sharing_of, gates_of, is_built, plan_of, IsPlain, notation_of};
-ghost use Rattle.motion_cli.specs.Report.{AreShort};
+ghost use Rattle.mixed_circuit.specs.Table as mixed_table;
+ghost use Rattle.motion_cli.specs.Circuits.{InBristol, circuit_of, Reads, FirstFault, IsFirstFault, inputs_of, outputs_of, parties_of, IsWhole, sharing_of, gates_of, is_built, plan_of, Keeps, IsPlain, notation_of};
+ghost use Rattle.gate_plan.specs.Keeps.{KeepsEvaluation};
+ghost use Rattle.gate_plan.specs.Lowering.{all_gates, all_built, lowered};
+ghost use Rattle.local_engine.specs.Inputs.{TakesInputs};
+ghost use Rattle.motion_cli.specs.Report.{AreShort, AreNarrow};
 
 use crate::report::Notation;
 use bristol_reader::{Bristol, BristolCause, BristolError, plain_bristol, read_bristol};
-use circuit_values::{InputTable, Outputs, Values};
+use circuit_values::{InputTable, OutputTable, Outputs, Values};
 use cli_words::BristolWords;
 use gate_plan::{
     Plan, PlanError, lower_bristol, lower_mixed, lowered_bristol_gates, lowered_gates,
@@ -103,6 +107,28 @@ impl Circuit {
         }
     }
 
+    /// The outputs, with who is told each.
+    pub(crate) fn outputs(&self, alloc: Global) -> Result<OutputTable, NoMemory>
+        ensures value { IfOk result (λ table. table ≡ outputs_of (circuit_of self.now)) }
+        ensures narrow { IfOk result (λ table. AreNarrow (notation_of (circuit_of self.now)) table) }
+    {
+        match self {
+            Circuit::Mixed(circuit) => mixed_outputs(alloc, circuit),
+            Circuit::Bristol(circuit, _) => circuit.outputs(alloc),
+        }
+    }
+
+    /// How many parties the circuit has.
+    pub(crate) fn parties(&self) -> u8
+        ensures value { result ≡ parties_of (circuit_of self.now) }
+        ensures whole { IsWhole (circuit_of self.now) }
+    {
+        match self {
+            Circuit::Mixed(circuit) => circuit.parties(),
+            Circuit::Bristol(circuit, words) => parties_of(circuit, *words),
+        }
+    }
+
     /// How many gates the circuit has, whether its plan is built or not.
     pub(crate) fn gates(&self) -> u64
         ensures { result ≡ gates_of (circuit_of self.now) }
@@ -118,13 +144,15 @@ impl Circuit {
     /// The plan of the circuit. `NotBuilt` comes before `TooManyGates`.
     pub(crate) fn plan(&self, alloc: Global) -> Result<Plan, PlanError>
         ensures plan { IfOk result (λ plan. plan ≡ plan_of (circuit_of self.now)) }
+        ensures keeps { IfOk result (λ plan. Keeps (circuit_of self.now) plan) }
+        ensures takes { IfOk result (λ plan. TakesInputs (inputs_of (circuit_of self.now)) plan) }
         ensures not_built { IsErrOf result PlanError.NotBuilt ↔ (is_built (circuit_of self.now) ≡ false) }
         ensures too_many { (gates : ℕ) → IsErrOf result (PlanError.TooManyGates gates) ↔
             ((is_built (circuit_of self.now) ≡ true) × (most_gates < gates_of (circuit_of self.now))
             × (gates ≡ gates_of (circuit_of self.now))) }
     {
         match self {
-            Circuit::Mixed(circuit) => lower_mixed(alloc, circuit),
+            Circuit::Mixed(circuit) => mixed_plan(alloc, circuit),
             Circuit::Bristol(circuit, words) => {
                 lower_bristol(alloc, circuit, words.parties, sharing_of(words.sharing))
             }
@@ -152,6 +180,37 @@ impl Circuit {
             Circuit::Bristol(..) => Notation::Hexadecimal,
         }
     }
+}
+
+/// How many parties the words of a circuit in Bristol Fashion say.
+fn parties_of(circuit: &Bristol, words: BristolWords) -> u8
+    ensures value { result ≡ words.parties }
+    ensures whole { IsWhole (InBristol (bristol_of words) circuit.now) }
+{
+    let _wires = circuit.wires();
+    words.parties
+}
+
+/// The plan of a mixed circuit.
+fn mixed_plan(alloc: Global, circuit: &Mixed) -> Result<Plan, PlanError>
+    ensures plan { IfOk result (λ plan. plan ≡ lowered circuit.now) }
+    ensures keeps { IfOk result (λ plan. KeepsEvaluation circuit.now plan) }
+    ensures takes { IfOk result (λ plan. TakesInputs (mixed_table.inputs_of circuit.now.statements) plan) }
+    ensures not_built { IsErrOf result PlanError.NotBuilt ↔ (all_built circuit.now ≡ false) }
+    ensures too_many { (gates : ℕ) → IsErrOf result (PlanError.TooManyGates gates) ↔
+        ((all_built circuit.now ≡ true) × (most_gates < all_gates circuit.now) × (gates ≡ all_gates circuit.now)) }
+{
+    let _statements = circuit.len();
+    lower_mixed(alloc, circuit)
+}
+
+/// The outputs of a mixed circuit, each of at most 64 bits.
+fn mixed_outputs(alloc: Global, circuit: &Mixed) -> Result<OutputTable, NoMemory>
+    ensures value { IfOk result (λ table. table ≡ mixed_table.outputs_of circuit.now) }
+    ensures narrow { IfOk result (λ table. All (λ o. o.width ≤ most_width) table) }
+{
+    let _statements = circuit.len();
+    circuit.outputs(alloc)
 }
 
 /// How the wires of a circuit in Bristol Fashion are shared.

@@ -6,27 +6,24 @@ ghost use Rattle.mot_base.specs.Limits.{most_file_bytes};
 ghost use Rattle.circuit_values.specs.declared.cause.ValuesCause.{ValuesCause};
 ghost use Rattle.circuit_values.specs.Values.{ReadsValues, HaveWidths};
 ghost use Rattle.circuit_values.specs.Values as values;
-ghost use Rattle.mixed_circuit.specs.Table as mixed_inputs;
+ghost use Rattle.local_engine.specs.Inputs.{TakesInputs};
 ghost use Rattle.motion_cli.specs.declared.circuit.CircuitFault.{CircuitFault};
 ghost use Rattle.motion_cli.specs.Circuits as any;
-ghost use Rattle.motion_cli.specs.Circuits.{circuit_of, notation_of, Reads, FirstFault, inputs_of, plan_of};
-ghost use Rattle.motion_cli.specs.Commands.{HasTooMany, gates_refused, PlainReads, PlainEnds, NeedsReads, NeedsEnds, LocalReads, LocalEnds, Reports};
+ghost use Rattle.motion_cli.specs.Circuits.{circuit_of, notation_of, Reads, FirstFault, inputs_of, plan_of, Keeps};
+ghost use Rattle.motion_cli.specs.Commands.{HasTooMany, gates_refused, PlainReads, PlainEnds, NeedsReads, NeedsEnds, Reports};
 ghost use Rattle.motion_cli.specs.Outcome.{line, at_line, memory, reported, circuit_refused, values_refused};
 ghost use Rattle.motion_cli.specs.Refusal.{outcome_of, came_to, circuit_cause, values_cause};
-ghost use Rattle.motion_cli.specs.Report.{output_lines, parties_report};
-ghost use Rattle.motion_cli.specs.Run.{is_built, is_run_locally, parties_of, word_of_shares};
+ghost use Rattle.motion_cli.specs.Report.{output_lines};
 ghost use Rattle.motion_cli.specs.Steps.{Fault};
-ghost use Rattle.cli_words.specs.Request.{bristol_of, plain_request, needs_request, local_request};
+ghost use Rattle.cli_words.specs.Request.{bristol_of, plain_request, needs_request};
 
 use crate::circuit::{Circuit, ReadError, read_circuit};
 use crate::load::{load, load_both};
 use crate::refusal::Refusal;
-use crate::report::{Notation, report_all, report_needs, report_parties};
-use crate::run::{Shares, is_built, run_on_shares};
+use crate::report::{report_all, report_needs};
 use circuit_values::{Values, ValuesError, read_values};
-use cli_words::{BristolWords, LocalWords, NeedsWords, PlainWords};
+use cli_words::{BristolWords, NeedsWords, PlainWords};
 use gate_plan::{Plan, PlanError};
-use mixed_circuit::Mixed;
 use mot_base::{Files, MAX_GATES, NoMemory};
 use std::alloc::Global;
 
@@ -123,8 +120,14 @@ fn needs_of_text<'a>(
 }
 
 /// The plan of a circuit.
-fn plan_of<'a>(alloc: Global, name: &'a str, circuit: &Circuit) -> Result<Plan, Refusal<'a>>
+pub(crate) fn plan_of<'a>(
+    alloc: Global,
+    name: &'a str,
+    circuit: &Circuit,
+) -> Result<Plan, Refusal<'a>>
     ensures plan { IfOk result (λ plan. plan ≡ plan_of (circuit_of circuit.now)) }
+    ensures keeps { IfOk result (λ plan. Keeps (circuit_of circuit.now) plan) }
+    ensures takes { IfOk result (λ plan. TakesInputs (inputs_of (circuit_of circuit.now)) plan) }
     ensures built { IfOk result (λ plan. any.is_built (circuit_of circuit.now) ≡ true) }
     ensures few { IfOk result (λ plan. ¬ (HasTooMany (circuit_of circuit.now))) }
     ensures err { IfErr result (λ refusal.
@@ -142,106 +145,8 @@ fn plan_of<'a>(alloc: Global, name: &'a str, circuit: &Circuit) -> Result<Plan, 
     }
 }
 
-/// The report of `local`: for each party, the outputs that it is told.
-pub(crate) fn local_report<'a, F: Files>(
-    alloc: Global,
-    words: &'a LocalWords,
-    files: &mut F,
-) -> Result<String, Refusal<'a>>
-    ensures came { LocalEnds (F.holds files.old) (Rose (F.faults files.old) (F.faults files.new))
-        (local_request words.entry.now) (came_to result)
-        ⊎ (came_to result ≡ memory) }
-    ensures same { F.holds files.new ≡ F.holds files.old }
-    ensures never_falls { F.faults files.old ≤ F.faults files.new }
-{
-    let (circuit, values) = load_both(alloc, files, words.circuit.as_str(), words.values.as_str())?;
-    local_of_texts(alloc, words, circuit, values)
-}
-
-/// The same, once both files are loaded. Each text is dropped as soon as it is read.
-fn local_of_texts<'a>(
-    alloc: Global,
-    words: &'a LocalWords,
-    circuit: Vec<u8>,
-    values: Vec<u8>,
-) -> Result<String, Refusal<'a>>
-    requires circuit { length circuit.items ≤ most_file_bytes }
-    requires values { length values.items ≤ most_file_bytes }
-    ensures { LocalReads (local_request words.entry.now) circuit.items values.items (came_to result)
-        ⊎ (came_to result ≡ memory) }
-{
-    let circuit = circuit_of(alloc, words.circuit.as_str(), words.bristol, circuit)?;
-    if !is_run_locally(&circuit) {
-        return Err(Refusal::NotBuilt {
-            name: words.circuit.as_str(),
-        });
-    }
-    let values = values_of(alloc, words.values.as_str(), &circuit, values)?;
-    Ok(run_and_report(alloc, words, &circuit, &values)?)
-}
-
-/// Whether `local` runs a circuit.
-fn is_run_locally(circuit: &Circuit) -> bool
-    ensures { result ≡ is_run_locally (circuit_of circuit.now) }
-{
-    match circuit {
-        Circuit::Mixed(circuit) => is_built(circuit),
-        Circuit::Bristol(..) => false,
-    }
-}
-
-/// Runs a circuit on shares, and reports its outputs.
-fn run_and_report(
-    alloc: Global,
-    words: &LocalWords,
-    circuit: &Circuit,
-    values: &Values,
-) -> Result<String, NoMemory>
-    requires built { is_run_locally (circuit_of circuit.now) ≡ true }
-    requires widths { HaveWidths None (inputs_of (circuit_of circuit.now)) values.now }
-    ensures { IfOk result (λ text. Reports (circuit_of circuit.now) values.now
-        (λ outputs. parties_report Notation.Decimal outputs (parties_of (circuit_of circuit.now)))
-        (reported (string_bytes text))) }
-{
-    match circuit {
-        Circuit::Mixed(circuit) => run_mixed(alloc, words, circuit, values),
-        Circuit::Bristol(..) => unreachable!(),
-    }
-}
-
-/// Runs a mixed circuit on shares, and reports its outputs.
-fn run_mixed(
-    alloc: Global,
-    words: &LocalWords,
-    circuit: &Mixed,
-    values: &Values,
-) -> Result<String, NoMemory>
-    requires built { is_built circuit.now ≡ true }
-    requires widths { HaveWidths None (mixed_inputs.inputs_of circuit.now.statements) values.now }
-    ensures { IfOk result (λ text. Reports (any.Mixed circuit.now) values.now
-        (λ outputs. parties_report Notation.Decimal outputs circuit.now.parties)
-        (reported (string_bytes text))) }
-{
-    let inputs = circuit.input_numbers(alloc, values)?;
-    let shares = run_on_shares(alloc, circuit, inputs.as_slice(), &words.seed)?;
-    let words = words_of(alloc, shares.as_slice())?;
-    let outputs = circuit.tell(alloc, words.as_slice())?;
-    report_parties(alloc, Notation::Decimal, &outputs, circuit.parties())
-}
-
-/// The words that shares stand for.
-fn words_of(alloc: Global, shares: &[Shares]) -> Result<Vec<u64>, NoMemory>
-    ensures { IfOk result (λ words. words.items ≡ map word_of_shares shares.now) }
-{
-    let mut words = Vec::with_capacity(alloc, shares.len())?;
-    for each in shares {
-        words.push(each.word())?;
-    }
-    Ok(words)
-}
-
 /// Reads the text of a circuit's file, and drops it.
-fn circuit_of<'a>(
+pub(crate) fn circuit_of<'a>(
     alloc: Global,
     name: &'a str,
     bristol: Option<BristolWords>,
@@ -264,7 +169,7 @@ fn circuit_of<'a>(
 }
 
 /// Reads the text of the file of the values of a circuit's inputs, and drops it.
-fn values_of<'a>(
+pub(crate) fn values_of<'a>(
     alloc: Global,
     name: &'a str,
     circuit: &Circuit,

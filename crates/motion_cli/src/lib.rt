@@ -3,15 +3,15 @@
 
 mod circuit;
 mod commands;
-mod deal;
+mod dealer;
 mod end;
 mod load;
+mod local;
 mod offers;
 mod parts;
 mod program;
 mod refusal;
 mod report;
-mod run;
 mod status;
 
 pub use program::{deal_command, local_command, motion, needs_command, plain_command};

@@ -21,7 +21,7 @@ pub(crate) fn offers() -> &'static [Offer]
         },
         Offer {
             command: Command::Local,
-            options: &[],
+            options: &[OptionName::As, OptionName::Parties, OptionName::Dealer],
         },
     ]
 }

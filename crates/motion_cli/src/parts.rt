@@ -13,7 +13,6 @@ ghost use Rattle.motion_cli.specs.Outcome.{file_refused, memory};
 ghost use Rattle.motion_cli.specs.Parts.{part_name, part_file, part_length, counts_asked, deal_files, dealt_line};
 ghost use Rattle.motion_cli.specs.Refusal.{came_to, outcome_of};
 
-use crate::deal::DEALER;
 use crate::refusal::{FileCause, Refusal};
 use cli_words::DealWords;
 use dealer_files::{DealerPart, dealer_len, write_dealer};
@@ -21,6 +20,9 @@ use dealer_maker::deal;
 use mot_base::{FileError, Files, MAX_FILE_LENGTH, NoMemory, derive};
 use share_types::Needs;
 use std::alloc::Global;
+
+/// The label under which the seed of the dealer's tape is derived. A party's is its number.
+pub(crate) const DEALER: u8 = 255;
 
 /// The report of `deal`, once the parts of all parties are stored.
 pub(crate) fn deal_report<'a, F: Files>(
@@ -135,7 +137,7 @@ fn store_part<'a, F: Files>(
 }
 
 /// The name of the file of a party's part.
-fn part_name(alloc: Global, prefix: &str, party: u8) -> Result<String, NoMemory>
+pub(crate) fn part_name(alloc: Global, prefix: &str, party: u8) -> Result<String, NoMemory>
     ensures { IfOk result (λ name. string_bytes name ≡ part_name prefix.now party) }
 {
     Ok(format!(in alloc; "{prefix}.{party}")?)

@@ -12,8 +12,9 @@ ghost use Rattle.motion_cli.specs.Refusal.{came_to};
 ghost use Rattle.motion_cli.specs.Settled.{IsUsage, IsDone, IsComplete, IsStored};
 ghost use Rattle.motion_cli.specs.Words.{AsksFor, AsksPlain, AsksNeeds, AsksDeal, AsksLocal, NamesCommand, StoresNothing};
 
-use crate::commands::{local_report, needs_report, plain_report};
+use crate::commands::{needs_report, plain_report};
 use crate::end::end;
+use crate::local::local_report;
 use crate::offers::offers;
 use crate::parts::deal_report;
 use crate::refusal::Refusal;

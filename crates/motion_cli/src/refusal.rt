@@ -1,16 +1,19 @@
 ghost use Rattle.std.specs.Prelude.{◌≡◌, codes, IfOk, string_bytes};
 ghost use Rattle.motion_cli.specs.Outcome.{line, about};
 ghost use Rattle.motion_cli.specs.Parts.{part_name};
-ghost use Rattle.motion_cli.specs.Refusal.{status_of, line_of, cause_of, mixed_cause, bristol_cause, circuit_cause, values_cause};
+ghost use Rattle.motion_cli.specs.Refusal.{status_of, line_of, cause_of, mixed_cause, bristol_cause, circuit_cause, values_cause, dealer_word, dealer_cause, field_name, part_fault, kind_name, few_line};
 
 use crate::circuit::CircuitFault;
+use crate::dealer::{Field, PartFault};
 use crate::status::Status;
 use bristol_reader::BristolCause;
 use circuit_values::ValuesCause;
 use cli_words::WordsError;
+use dealer_files::DealerError;
 use mixed_circuit::CircuitCause;
 use mot_base::NoMemory;
-use std::alloc::{AllocError, Global};
+use share_types::{Kind, TooFew};
+use std::alloc::{AllocError, AllocFailed, Global};
 
 /// Why a command ends without a report.
 #[derive(Clone, Copy, Debug)]
@@ -43,12 +46,20 @@ pub enum Refusal<'a> {
         name: &'a str,
         cause: FileCause,
     },
-    /// The file of a party's part, which is named by this prefix, was not stored.
+    /// The file of a party's part, which is named by this prefix, was not loaded or not stored.
     Part {
         prefix: &'a str,
         party: u8,
         cause: FileCause,
     },
+    /// The file of a party's part, which is named by this prefix, is not as expected.
+    Dealer {
+        prefix: &'a str,
+        party: u8,
+        fault: PartFault,
+    },
+    /// There are too few correlations of a kind.
+    Few(TooFew),
     /// Memory ran out.
     Memory,
 }
@@ -137,7 +148,99 @@ fn values_word(cause: ValuesCause) -> &'static str
     }
 }
 
-/// The line of a part whose file was not stored.
+/// The name of a cause in a dealer's file.
+fn dealer_word(cause: DealerError) -> &'static str
+    ensures { result.now ≡ dealer_word cause }
+{
+    match cause {
+        DealerError::Magic => "Magic",
+        DealerError::Version => "Version",
+        DealerError::Party => "Party",
+        DealerError::OffsetEven => "OffsetEven",
+        DealerError::Counts => "Counts",
+        DealerError::RecordBits { .. } => "RecordBits",
+        DealerError::Short => "Short",
+        DealerError::Long => "Long",
+        DealerError::NoMemory => "NoMemory",
+    }
+}
+
+/// The name of a field of a part.
+fn field_word(field: Field) -> &'static str
+    ensures { result.now ≡ field_name field }
+{
+    match field {
+        Field::Parties => "parties",
+        Field::Party => "party",
+        Field::Id => "id",
+        Field::Mult => "mult",
+        Field::Bit => "bit",
+        Field::Shared => "shared",
+        Field::Key => "key",
+    }
+}
+
+/// The name of a kind of correlations.
+fn kind_word(kind: Kind) -> &'static str
+    ensures { result.now ≡ kind_name kind }
+{
+    match kind {
+        Kind::Mult => "mult",
+        Kind::Bit => "bit",
+        Kind::Shared => "shared",
+        Kind::Key => "key",
+    }
+}
+
+/// What is wrong with a dealer's file: the cause, and of a record the place.
+fn dealer_text(alloc: Global, cause: DealerError) -> Result<String, AllocError>
+    ensures { IfOk result (λ text. string_bytes text ≡ dealer_cause cause) }
+{
+    match cause {
+        DealerError::RecordBits { place } => format!(in alloc; "RecordBits at {place}"),
+        cause => String::from_str(alloc, dealer_word(cause)),
+    }
+}
+
+/// What is wrong with a part.
+fn fault_text(alloc: Global, fault: PartFault) -> Result<String, AllocError>
+    ensures { IfOk result (λ text. string_bytes text ≡ part_fault fault) }
+{
+    match fault {
+        PartFault::Unread(cause) => dealer_text(alloc, cause),
+        PartFault::Differs(difference) => {
+            let field = field_word(difference.field);
+            let (expected, found) = (difference.expected, difference.found);
+            format!(in alloc; "{field} expected {expected} found {found}")
+        }
+    }
+}
+
+/// The line of a part that is not as expected.
+fn dealer_line(
+    alloc: Global,
+    prefix: &str,
+    party: u8,
+    fault: PartFault,
+) -> Result<String, AllocError>
+    ensures { IfOk result (λ text.
+        string_bytes text ≡ about (codes "dealer") (part_name prefix.now party) (line (part_fault fault))) }
+{
+    let fault = fault_text(alloc, fault)?;
+    let text = format!(in alloc; "dealer {prefix}.{party}: {fault}\n")?;
+    Ok(text)
+}
+
+/// The line about too few correlations of a kind.
+fn few_line(alloc: Global, few: TooFew) -> Result<String, AllocError>
+    ensures { IfOk result (λ text. string_bytes text ≡ few_line few) }
+{
+    let kind = kind_word(few.kind);
+    let (before, asked, stock) = (few.before, few.asked, few.stock);
+    format!(in alloc; "too few {kind}: before {before} asked {asked} stock {stock}\n")
+}
+
+/// The line of a part whose file was not loaded or not stored.
 fn part_line(alloc: Global, prefix: &str, party: u8, cause: FileCause) -> Result<String, AllocError>
     ensures { IfOk result (λ text.
         string_bytes text ≡ about (codes "file") (part_name prefix.now party) (line (cause_of cause))) }
@@ -159,6 +262,8 @@ impl Refusal<'_> {
             }
             Refusal::Values { .. } => Status::Values,
             Refusal::File { .. } | Refusal::Part { .. } => Status::File,
+            Refusal::Dealer { .. } => Status::Dealer,
+            Refusal::Few(_) => Status::TooFew,
             Refusal::Memory => Status::Memory,
         }
     }
@@ -188,8 +293,36 @@ impl Refusal<'_> {
                 party,
                 cause,
             } => part_line(alloc, prefix, *party, *cause),
+            Refusal::Dealer {
+                prefix,
+                party,
+                fault,
+            } => dealer_line(alloc, prefix, *party, *fault),
+            Refusal::Few(few) => few_line(alloc, *few),
             Refusal::Memory => String::from_str(alloc, "memory\n"),
         }
+    }
+}
+
+impl From<AllocError> for Refusal<'_> {
+    ghost use Rattle.std.specs.Prelude.{◌≡◌};
+    ghost use Rattle.motion_cli.specs.declared.refusal.Refusal.TheVariants.{Memory};
+
+    ghost from_gives = { λ _ refusal. refusal ≡ Memory };
+
+    fn from(_error: AllocError) -> Self {
+        Refusal::Memory
+    }
+}
+
+impl<T: Drop> From<AllocFailed<T>> for Refusal<'_> {
+    ghost use Rattle.std.specs.Prelude.{◌≡◌};
+    ghost use Rattle.motion_cli.specs.declared.refusal.Refusal.TheVariants.{Memory};
+
+    ghost from_gives = { λ _ refusal. refusal ≡ Memory };
+
+    fn from(_error: AllocFailed<T>) -> Self {
+        Refusal::Memory
     }
 }
 
@@ -201,6 +334,17 @@ impl From<NoMemory> for Refusal<'_> {
 
     fn from(_error: NoMemory) -> Self {
         Refusal::Memory
+    }
+}
+
+impl From<TooFew> for Refusal<'_> {
+    ghost use Rattle.std.specs.Prelude.{◌≡◌};
+    ghost use Rattle.motion_cli.specs.declared.refusal.Refusal.TheVariants.{Few};
+
+    ghost from_gives = { λ few refusal. refusal ≡ Few few };
+
+    fn from(few: TooFew) -> Self {
+        Refusal::Few(few)
     }
 }
 

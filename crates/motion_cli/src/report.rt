@@ -1,11 +1,18 @@
-ghost use Rattle.std.specs.Prelude.{◌≡◌, ◌<◌, ◌+◌, ◌/◌, ◌++◌, length, take, slice_get, [], false, IfOk, IfSome, OnOk, string_bytes, if◌then◌else◌};
+ghost use Rattle.std.specs.Prelude.{◌≡◌, ◌<◌, ◌≤◌, ◌+◌, ◌/◌, ◌++◌, ℕ, List, Some, length, take, slice_get, [], false, codes, IfOk, IfSome, OnOk, string_bytes, if◌then◌else◌};
 ghost use Rattle.std.specs.Fmt.{digits};
+ghost use Rattle.hex.specs.Hex.{encode_lower};
 ghost use Rattle.share_types.specs.Bits.{number};
-ghost use Rattle.circuit_values.specs.Table.{is_receiver};
-ghost use Rattle.motion_cli.specs.Report.{hexadecimal_digits, AreShort, output_line, output_lines, told_to, party_report, parties_report, needs_lines, needs_report};
+ghost use Rattle.std.specs.List.{sum_by};
+ghost use Rattle.mot_base.specs.Limits.{most_parties};
+ghost use Rattle.circuit_values.specs.Table.{asked, total_width};
+ghost use Rattle.local_engine.specs.declared.report.PartyReport as spec;
+ghost use Rattle.motion_cli.specs.Report.{hexadecimal_digits, AreShort, AreNarrow, PartyRun, output_line, output_lines, run_report, runs_report, needs_lines, needs_report};
+ghost use Rattle.motion_cli.specs.Outcome.{line};
+ghost use Rattle.motion_cli.specs.Run.{IsRunOf, AreRunsOf};
 
-use circuit_values::{Outputs, Receiver, number_of};
+use circuit_values::{OutputTable, Outputs, number_of};
 use gate_plan::Plan;
+use local_engine::PartyReport;
 use mot_base::{NoMemory, Party};
 use share_types::Needs;
 use std::alloc::{AllocError, Global};
@@ -30,27 +37,72 @@ pub(crate) fn report_all(
     ensures { IfOk result (λ text. string_bytes text ≡ output_lines notation outputs.now) }
 {
     let mut text = String::new(alloc);
+    push_outputs(&mut text, notation, outputs)?;
+    Ok(text)
+}
+
+/// Adds the lines of outputs, in their order.
+fn push_outputs(text: &mut String, notation: Notation, outputs: &Outputs) -> Result<(), AllocError>
+    requires { AreShort notation outputs.now }
+    ensures { OnOk result (string_bytes text.new ≡ string_bytes text.old ++ output_lines notation outputs.now) }
+{
     for at in 0..outputs.len() {
-        push_output(&mut text, notation, outputs, at)?;
+        push_output(text, notation, outputs, at)?;
+    }
+    Ok(())
+}
+
+/// The report of all parties of a run, one after another: what each is told, and the digest of what it sent.
+pub(crate) fn report_runs(
+    alloc: Global,
+    notation: Notation,
+    table: &OutputTable,
+    reports: &[PartyReport],
+) -> Result<String, NoMemory>
+    requires narrow { AreNarrow notation table.now }
+    requires parties { length reports.now ≤ most_parties }
+    requires widths { (p : ℕ) (report : spec.PartyReport) → slice_get reports.now p ≡ Some report →
+        total_width (asked (Some (record { 0 = p })) table.now) ≡ sum_by (λ v. v.width) report.told }
+    ensures { IfOk result (λ text. (runs : List PartyRun) × AreRunsOf table.now reports.now runs
+        × (string_bytes text ≡ runs_report notation runs)) }
+{
+    let mut text = String::new(alloc);
+    for at in 0..reports.len() {
+        push_run(alloc, &mut text, notation, table, at as u8, &reports[at])?;
     }
     Ok(text)
 }
 
-/// The report of the first parties, one after another, each with the outputs that it is told.
-pub(crate) fn report_parties(
+/// Adds what is reported of a party.
+fn push_run(
     alloc: Global,
+    text: &mut String,
     notation: Notation,
-    outputs: &Outputs,
-    parties: u8,
-) -> Result<String, NoMemory>
-    requires { AreShort notation outputs.now }
-    ensures { IfOk result (λ text. string_bytes text ≡ parties_report notation outputs.now parties) }
+    table: &OutputTable,
+    party: u8,
+    report: &PartyReport,
+) -> Result<(), NoMemory>
+    requires narrow { AreNarrow notation table.now }
+    requires widths { total_width (asked (Some (record { 0 = party })) table.now)
+        ≡ sum_by (λ v. v.width) report.now.told }
+    ensures { OnOk result ((run : PartyRun) × IsRunOf table.now party report.now run
+        × (string_bytes text.new ≡ string_bytes text.old ++ run_report notation run)) }
 {
-    let mut text = String::new(alloc);
-    for party in 0..parties {
-        push_party(&mut text, notation, outputs, Party(party))?;
-    }
-    Ok(text)
+    let outputs = Outputs::cut(alloc, table, Some(Party(party)), report.told.as_slice())?;
+    write!(text, "party {party}\n")?;
+    push_outputs(text, notation, &outputs)?;
+    push_digest(alloc, text, report.digest)?;
+    Ok(())
+}
+
+/// Adds the digest of what a party sent.
+fn push_digest(alloc: Global, text: &mut String, digest: [u8; 32]) -> Result<(), NoMemory>
+    ensures { OnOk result (string_bytes text.new
+        ≡ string_bytes text.old ++ (codes "digest " ++ line (encode_lower digest))) }
+{
+    let digest = hex::encode(alloc, digest)?;
+    write!(text, "digest {digest}\n")?;
+    Ok(())
 }
 
 /// The report of what a plan needs.
@@ -71,72 +123,6 @@ fn needs_behind(text: String, needs: &Needs) -> Result<String, NoMemory>
     let (mult, bit, shared, key) = (needs.mult, needs.bit, needs.shared, needs.key);
     write!(text, "mult {mult}\nbit {bit}\nshared {shared}\nkey {key}\n")?;
     Ok(text)
-}
-
-/// Adds what is reported of a party.
-fn push_party(
-    text: &mut String,
-    notation: Notation,
-    outputs: &Outputs,
-    party: Party,
-) -> Result<(), AllocError>
-    requires { AreShort notation outputs.now }
-    ensures { OnOk result
-        (string_bytes text.new ≡ string_bytes text.old ++ party_report notation outputs.now party.0) }
-{
-    let number = party.0;
-    write!(text, "party {number}\n")?;
-    push_told(text, notation, outputs, party)
-}
-
-/// Adds the lines of the outputs that a party is told.
-fn push_told(
-    text: &mut String,
-    notation: Notation,
-    outputs: &Outputs,
-    party: Party,
-) -> Result<(), AllocError>
-    requires { AreShort notation outputs.now }
-    ensures { OnOk result
-        (string_bytes text.new
-        ≡ string_bytes text.old ++ output_lines notation (told_to party.0 outputs.now)) }
-{
-    for at in 0..outputs.len() {
-        push_if_told(text, notation, outputs, at, party)?;
-    }
-    Ok(())
-}
-
-/// Adds the line of an output, if the party is told it.
-fn push_if_told(
-    text: &mut String,
-    notation: Notation,
-    outputs: &Outputs,
-    at: u32,
-    party: Party,
-) -> Result<(), AllocError>
-    requires at { at < length outputs.now }
-    requires width { AreShort notation outputs.now }
-    ensures { OnOk result (IfSome (slice_get outputs.now at) (λ output.
-        string_bytes text.new
-        ≡ string_bytes text.old
-        ++ (if is_receiver output.to party then output_line notation output else []))) }
-{
-    if is_told(outputs.receiver(at), party) {
-        push_output(text, notation, outputs, at)
-    } else {
-        Ok(())
-    }
-}
-
-/// Whether a receiver is a party, or all.
-fn is_told(to: Receiver, party: Party) -> bool
-    ensures { result ≡ is_receiver to party }
-{
-    match to {
-        Receiver::All => true,
-        Receiver::One(other) => other == party,
-    }
 }
 
 /// Adds the line of an output.

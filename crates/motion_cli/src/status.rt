@@ -12,6 +12,10 @@ pub enum Status {
     Circuit,
     /// Values are refused.
     Values,
+    /// A dealer's file is refused.
+    Dealer,
+    /// There are too few correlations.
+    TooFew,
     /// A file could not be loaded.
     File,
     /// The report could not be written.
@@ -30,6 +34,8 @@ impl Status {
             Status::Usage => 1,
             Status::Circuit => 2,
             Status::Values => 3,
+            Status::Dealer => 4,
+            Status::TooFew => 5,
             Status::File => 8,
             Status::Write => 9,
             Status::Memory => 11,

@@ -1,5 +1,5 @@
 //! Circuits in Bristol Fashion, as the commands meet them.
-use crate::machine::Machine;
+use crate::machine::{Machine, SEED};
 use std::test::Fail;
 
 const AND: &str = "1 3\n2 1 1\n1 1\n\n2 1 0 1 2 AND\n";
@@ -50,6 +50,47 @@ fn the_last_wires_are_printed(rt: HostRuntime) -> Result<(), Fail> {
     Ok(())
 }
 
+/// Circuits, how many parties, values, and what `local` prints of all of them.
+static SHARED: [(&str, &str, &str, &str); 3] = [
+    (
+        AND,
+        "2",
+        "in0 = 0\nin1 = 1\n",
+        "\
+            party 0\nout0 = 0x0\ndigest 6e7a8ffc26dfa4d7f2f3c4a8bc6459c278fc44394a63d0f0b3a29d4274126629\n\
+            party 1\nout0 = 0x0\ndigest 98c961e4d06da3dbb802df0a97379593daded0cdf9aa87c6d25a59c944a92805\n",
+    ),
+    (
+        AND,
+        "2",
+        "in0 = 1\nin1 = 1\n",
+        "\
+            party 0\nout0 = 0x1\ndigest 9aa5de1b778aa6aba1515e3fcd7e584397b72e93408d1523bd8065caa91fa795\n\
+            party 1\nout0 = 0x1\ndigest 98c961e4d06da3dbb802df0a97379593daded0cdf9aa87c6d25a59c944a92805\n",
+    ),
+    (
+        KINDS,
+        "3",
+        "in0 = 0x9\n",
+        "\
+            party 0\nout0 = 0x6\ndigest 639393df235ea807e3c7984eacc8f5198d2c571350a4a1a0a6b130c4fa5c652f\n\
+            party 1\nout0 = 0x6\ndigest bb9bb6ee4df29eec8ee5326924c78d881baaf9c41a30e5782fbc8329bd6813a6\n\
+            party 2\nout0 = 0x6\ndigest 150c337914a36dd67e89efcb2d63cdec1fa3df6d3f5c660c519a0a6dde3386c9\n",
+    ),
+];
+
+#[test]
+fn all_parties_share_the_wires_by_xor(rt: HostRuntime) -> Result<(), Fail> {
+    for (circuit, parties, values, printed) in &SHARED {
+        let files = [("c", *circuit), ("v", *values)];
+        let words = ["local", "c", "v", SEED, "--as", "B", "--parties", *parties];
+        let end = Machine::new(files.as_slice()).run(rt.alloc(), &words)?;
+        assert_eq!(rt; end.written(), printed.as_bytes(), "{circuit:?}");
+        assert_eq!(rt; end.status, 0, "{circuit:?}");
+    }
+    Ok(())
+}
+
 struct Row {
     words: &'static [&'static str],
     circuit: &'static str,
@@ -58,7 +99,7 @@ struct Row {
     status: u8,
 }
 
-static ROWS: [Row; 12] = [
+static ROWS: [Row; 14] = [
     Row {
         words: &["needs", "c", "--as", "B", "--parties", "2"],
         circuit: AND,
@@ -70,6 +111,13 @@ static ROWS: [Row; 12] = [
         words: &["needs", "c", "--as", "Y", "--parties", "2"],
         circuit: AND,
         values: "",
+        printed: "circuit c: not built\n",
+        status: 2,
+    },
+    Row {
+        words: &["local", "c", "v", SEED, "--as", "Y", "--parties", "2"],
+        circuit: AND,
+        values: "in0 = 1\nin1 = 1\n",
         printed: "circuit c: not built\n",
         status: 2,
     },
@@ -126,6 +174,13 @@ static ROWS: [Row; 12] = [
     },
     Row {
         words: &["plain", "c", "v", "--as", "B", "--parties", "2"],
+        circuit: "mixed 1\nparties 2\n",
+        values: "",
+        printed: "circuit c: line 1: Header\n",
+        status: 2,
+    },
+    Row {
+        words: &["local", "c", "v", SEED, "--as=B", "--parties", "2"],
         circuit: "mixed 1\nparties 2\n",
         values: "",
         printed: "circuit c: line 1: Header\n",

@@ -12,6 +12,8 @@ mod needs;
 #[cfg(test)]
 mod output;
 #[cfg(test)]
+mod parts;
+#[cfg(test)]
 mod refusals;
 #[cfg(test)]
 mod reports;

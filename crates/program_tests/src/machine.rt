@@ -34,6 +34,11 @@ impl End {
         self.out.bytes()
     }
 
+    /// The files as they are then.
+    pub(crate) fn into_files(self) -> MemFiles {
+        self.files
+    }
+
     /// What a name holds, in hexadecimal digits.
     pub(crate) fn held(&self, alloc: Global, name: &str) -> Result<Option<String>, Fail> {
         match self.files.get(name) {
@@ -95,7 +100,8 @@ impl<'a> Machine<'a> {
         Ok(End { status, files, out })
     }
 
-    fn files(&self, alloc: Global) -> Result<MemFiles, Fail> {
+    /// Its files, of which no call is made yet.
+    pub(crate) fn files(&self, alloc: Global) -> Result<MemFiles, Fail> {
         let names: Vec<String> = self
             .files
             .iter()
@@ -110,7 +116,8 @@ impl<'a> Machine<'a> {
         Ok(MemFiles::new(names, contents, failing))
     }
 
-    fn out(&self, alloc: Global) -> Result<MemSink, Fail> {
+    /// Its output, which is empty.
+    pub(crate) fn out(&self, alloc: Global) -> Result<MemSink, Fail> {
         let failing = Vec::from_slice(alloc, self.failing_writes)?;
         Ok(MemSink::new(alloc, self.room, failing)?)
     }

@@ -11,7 +11,11 @@ static FILES: [(&str, &str); 3] = [
     ("empty", ""),
 ];
 
-const REPORT: &[&str] = &["local", "product", "both", SEED];
+const LOCAL: &[&str] = &["local", "product", "both", SEED];
+
+const REPORT: &str = "\
+    party 0\nz = 42\ndigest ede9e85c2353da49bd07e838a89e63c5813eac7435feece4b976d5b741518e21\n\
+    party 1\nz = 42\ndigest 8aa423722ced7bffdeeed890dd4ab8dde54f3387d8eebb01a5251717f2ab94be\n";
 
 const PLAIN: &[&str] = &["plain", "product", "both"];
 
@@ -28,36 +32,38 @@ struct Writing {
 static WRITINGS: [Writing; 12] = [
     // a report that is cut is not done
     Writing {
-        words: REPORT,
-        room: 30,
+        words: LOCAL,
+        room: 174,
         failing_writes: &[],
-        written: "party 0\nz = 42\nparty 1\nz = 42\n",
+        written: REPORT,
         status: 0,
     },
     Writing {
-        words: REPORT,
-        room: 29,
+        words: LOCAL,
+        room: 173,
         failing_writes: &[],
-        written: "party 0\nz = 42\nparty 1\nz = 42",
+        written: "\
+            party 0\nz = 42\ndigest ede9e85c2353da49bd07e838a89e63c5813eac7435feece4b976d5b741518e21\n\
+            party 1\nz = 42\ndigest 8aa423722ced7bffdeeed890dd4ab8dde54f3387d8eebb01a5251717f2ab94be",
         status: 9,
     },
     Writing {
-        words: REPORT,
+        words: LOCAL,
         room: 10,
         failing_writes: &[],
         written: "party 0\nz ",
         status: 9,
     },
     Writing {
-        words: REPORT,
+        words: LOCAL,
         room: 0,
         failing_writes: &[],
         written: "",
         status: 9,
     },
     Writing {
-        words: REPORT,
-        room: 30,
+        words: LOCAL,
+        room: 174,
         failing_writes: &[1],
         written: "",
         status: 9,

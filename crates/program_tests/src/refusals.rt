@@ -15,10 +15,13 @@ static FILES: [(&str, &str); 10] = [
     ("wide", "x = 6\ny = 18446744073709551616\n"),
     ("twice", "x = 6\ny = 7\nx = 6\n"),
     ("empty", ""),
-    ("three_parties", "mixed 1\nparties 3\n"),
     (
-        "shifted",
-        "mixed 1\nparties 2\nx = input 0 A\nz = mul_const x 2\noutput z all\n",
+        "keys",
+        "mixed 1\nparties 2\nx = input 0 Y 8\noutput x all\n",
+    ),
+    (
+        "converted",
+        "mixed 1\nparties 2\nx = input 0 A\nz = a2b x\noutput z all\n",
     ),
     (
         "unknown",
@@ -26,7 +29,7 @@ static FILES: [(&str, &str); 10] = [
     ),
 ];
 
-static WORDS: [&[&str]; 40] = [
+static WORDS: [&[&str]; 41] = [
     &[],
     &["plain"],
     &["plain", "product"],
@@ -73,7 +76,7 @@ static WORDS: [&[&str]; 40] = [
     &["plain", "product", "--", ""],
     &["plain", "product", "both", "--", "--"],
     // options that are not run with the command, or with none
-    &["local", "product", "both", SEED, "--as=B", "--parties", "2"],
+    &["plain", "product", "both", "--dealer", "d"],
     &[
         "plain",
         "product",
@@ -85,12 +88,13 @@ static WORDS: [&[&str]; 40] = [
     ],
     // an option that comes without the other, and values that are none
     &["plain", "product", "both", "--as=B"],
+    &["local", "product", "both", SEED, "--as=B"],
     &["needs", "product", "--parties=2"],
     &["needs", "product", "--as=A", "--parties=2"],
     &["needs", "product", "--as=Y", "--parties=9"],
     &["plain", "product", "both", "--par", "2"],
     &["--as=B", "plain", "product", "both", "--parties", "2"],
-    &["local", "product", "both", SEED, "--dealer", "d"],
+    &["local", "product", "both", SEED, "--dealer"],
     &["local", "product", "both", SEED, "--dealer", "-d"],
     &["local", "product", "both", SEED, "--dealer="],
     &["local", "product", "both", SEED, "--workers", "2"],
@@ -249,24 +253,24 @@ static REFUSALS: [Refusal; 17] = [
 
 // the refusals of `local` alone
 static NOT_BUILT: [Refusal; 5] = [
-    // circuits of three parties, or with another statement
+    // circuits with keys, or with a conversion
     Refusal {
-        circuit: "three_parties",
+        circuit: "keys",
         values: "both",
         failing_calls: &[],
-        line: "circuit three_parties: not built\n",
+        line: "circuit keys: not built\n",
         status: 2,
     },
     Refusal {
-        circuit: "shifted",
+        circuit: "converted",
         values: "one",
         failing_calls: &[],
-        line: "circuit shifted: not built\n",
+        line: "circuit converted: not built\n",
         status: 2,
     },
     // values that are missing, before a circuit that is not built
     Refusal {
-        circuit: "shifted",
+        circuit: "converted",
         values: "nothing",
         failing_calls: &[],
         line: "file nothing: missing\n",
@@ -274,17 +278,17 @@ static NOT_BUILT: [Refusal; 5] = [
     },
     // a circuit that is not built, before a fault of the values
     Refusal {
-        circuit: "three_parties",
+        circuit: "keys",
         values: "wide",
         failing_calls: &[],
-        line: "circuit three_parties: not built\n",
+        line: "circuit keys: not built\n",
         status: 2,
     },
     Refusal {
-        circuit: "shifted",
+        circuit: "converted",
         values: "empty",
         failing_calls: &[],
-        line: "circuit shifted: not built\n",
+        line: "circuit converted: not built\n",
         status: 2,
     },
 ];

@@ -1,0 +1,328 @@
+-- That each circuit has a plain evaluation, and that what the gates of its plan tell a party is what that evaluation
+-- tells it.
+use Rattle.std.proofs.Common.{ℕ, zero, suc, ◌≡◌, ◌≤◌, ◌+◌, ◌-◌, Bool, true, false, cond, List, [], ◌∷◌, ◌++◌, length, map, take, get_or, set, Some, None, refl, sym, ◌∙◌, ap, ap₂, subst, add-one, arith}
+use Rattle.std.specs.Prelude.{slice_get, slice_index, sum, replicate, filter}
+use Rattle.std.specs.List.{flat_map}
+use Rattle.std.proofs.lemmas.Bool.{and_parts}
+use Rattle.std.proofs.lemmas.List.{length-append, length-drop, length-replicate, length_push}
+use Rattle.std.proofs.lemmas.List.Sums.{sum_by-cons}
+use Rattle.std.proofs.Math.Seq.{take-append_seam}
+use Rattle.share_types.specs.declared.bits.Bits.{Bits}
+use Rattle.share_types.specs.Bits.{number, bits}
+use Rattle.share_types.proofs.BitsLemmas.{length-bits}
+use Rattle.circuit_values.specs.Table.{Output, Told, asked, joined_bits, total_width, AreCut}
+use Rattle.circuit_values.specs.Values.{HaveWidths}
+use Rattle.circuit_values.proofs.CutLemmas.{cut_of, cut_is_cut, cuts_once}
+use Rattle.circuit_values.proofs.Narrow.{some_at}
+use Rattle.mixed_circuit.specs.Circuit.{Statement}
+use Rattle.mixed_circuit.specs.Circuit as mixed
+use Rattle.mixed_circuit.specs.Language.{states, is_told_slot}
+use Rattle.mixed_circuit.specs.Table as mixed_table
+use Rattle.mixed_circuit.specs.Eval as mixed_eval
+use Rattle.mixed_circuit.proofs.ListLemmas.{same_some}
+use Rattle.mixed_circuit.proofs.EvalLemmas as values
+use Rattle.bristol_reader.specs.Kinds.{is_arity, output_bit}
+use Rattle.bristol_reader.specs.Circuit.{Gate as BristolGate, are_apart}
+use Rattle.bristol_reader.specs.Circuit as bristol
+use Rattle.bristol_reader.specs.Line.{is_in_range}
+use Rattle.bristol_reader.specs.Built.{IsBuilt, first_gates}
+use Rattle.bristol_reader.specs.Stored.{reads_none_of}
+use Rattle.bristol_reader.specs.Table as bristol_table
+use Rattle.bristol_reader.specs.Eval as bristol_eval
+use Rattle.bristol_reader.proofs.InputLemmas.{flat_count}
+use Rattle.bristol_reader.proofs.TableLemmas.{have_widths}
+use Rattle.bristol_reader.proofs.EvalLemmas as wires
+use Rattle.gate_plan.specs.Gate.{Gate, width_at}
+use Rattle.gate_plan.specs.Plan.{Gates}
+use Rattle.gate_plan.specs.Plain.{plain_before, number_at}
+use Rattle.gate_plan.specs.Messages.{is_told}
+use Rattle.gate_plan.specs.Keeps.{GateTold, told_by, unnamed, plain_numbers, KeepsEvaluation}
+use Rattle.gate_plan.specs.Bristol.{told_bits, KeepsBristol}
+use Rattle.local_engine.specs.Report.{told_to}
+use Rattle.local_engine.specs.Told.{bits_of_entries, outputs_to, AreToldInPlain}
+use Rattle.local_engine.proofs.Told.{told_bits_are_those_of_outputs, mixed_outputs_are_told, bristol_outputs_are_told}
+use Rattle.motion_cli.specs.Report as report
+use Rattle.motion_cli.specs.Circuits.{Circuit, Mixed, InBristol, inputs_of, outputs_of, plan_of, IsWhole, Keeps, IsPlain}
+
+-- ---- the values of a mixed circuit, statement by statement
+
+values_to : (ss : List Statement) (inputs : List ℕ) (n : ℕ) → n ≤ length ss →
+    (made : List ℕ) × values.EvaluatedTo ss inputs made n
+values_to ss inputs zero h = ([], values.none_evaluated ss inputs)
+values_to ss inputs (suc n) h =
+    let before = values_to ss inputs n (omega (arith, h)) in
+    let s = some_at ss n (omega (arith, h)) in
+    let value = mixed_eval.value_of_statement ss inputs before.0 n s.0 in (
+      before.0 ++ value ∷ [],
+      subst (values.EvaluatedTo ss inputs (before.0 ++ value ∷ [])) (add-one n)
+          (values.evaluated_next ss inputs before.0 n value before.1
+          (λ t is. ap (mixed_eval.value_of_statement ss inputs before.0 n) (same_some s.0 t (sym s.1 ∙ is)))),
+    )
+
+evaluated : (ss : List Statement) (inputs : List ℕ) → (made : List ℕ) × mixed_eval.IsEvaluated ss inputs made
+evaluated ss inputs =
+    let all = values_to ss inputs (length ss) (omega arith) in
+    (all.0, values.evaluated_all ss inputs all.0 (length ss) refl all.1)
+
+mixed_plain : (c : mixed.Circuit) (v : List (List Bool)) →
+    (outputs : List Told) × mixed_eval.IsPlain c v outputs
+mixed_plain c v =
+    let made = evaluated c.statements (map number v) in
+    (mixed_eval.told_of c made.0, record { values = made.0; evaluated = made.1; told = refl })
+
+-- ---- the bits of a circuit's wires in Bristol Fashion, gate by gate
+
+-- what a gate asks of the wires behind which it stands
+record Fits (old : List Bool) (g : BristolGate) : Type 0 where
+  pub arity : is_arity g.kind (length g.ins) (length g.outs) ≡ true
+  pub range : is_in_range (length old) g ≡ true
+  pub apart : are_apart g.outs ≡ true
+  pub others : reads_none_of g ≡ true
+
+outs_to : (old : List Bool) (g : BristolGate) (k : ℕ) → Fits old g → k ≤ length g.outs →
+    (now : List Bool) × wires.SetTo old g k now
+outs_to old g zero fits h = (old, wires.set_none old g)
+outs_to old g (suc k) fits h =
+    let before = outs_to old g k fits (omega (arith, h)) in
+    let bit = output_bit g.kind (bristol_eval.input_bit before.0 g) (length g.outs) k in
+    let now = set before.0 (get_or g.outs k 0) bit in (
+      now,
+      subst (λ (n : ℕ). wires.SetTo old g n now) (add-one k)
+          (wires.set_more old before.0 g k bit fits.arity fits.range fits.apart fits.others (omega (arith, h))
+          before.1 refl),
+    )
+
+wires_to : (c : bristol.Circuit) (inputs : List (List Bool)) (n : ℕ) →
+    IsBuilt c → bristol_table.HaveInputWidths c inputs → n ≤ length c.gates →
+    (made : List Bool) × wires.EvaluatedTo c inputs made n
+wires_to c inputs zero built widths h =
+    let given = flat_map (λ (v : List Bool). v) inputs in
+    let rest = replicate (c.wires - sum c.inputs) false in
+    let count : length given ≡ sum c.inputs = flat_count inputs ∙ ap sum widths.widths in
+    let more = length-replicate (c.wires - sum c.inputs) false in
+    let few = built.few_inputs in (
+      given ++ rest,
+      wires.evaluated_none c inputs (given ++ rest) (length-append given rest ∙ omega (arith, count, more, few))
+          (ap (λ (n : ℕ). take n (given ++ rest)) (sym count) ∙ take-append_seam given rest),
+    )
+wires_to c inputs (suc n) built widths h =
+    let before = wires_to c inputs n built widths (omega (arith, h)) in
+    let there = some_at c.gates n (omega (arith, h)) in
+    let g = there.0 in
+    let behind = built.each n g there.1 in
+    let fits : Fits before.0 g = record {
+      arity = behind.arity;
+      range = ap (λ (k : ℕ). is_in_range k g) before.1.count ∙ behind.range;
+      apart = (and_parts _ (are_apart g.outs) behind.once).1;
+      others = wires.reads_none (first_gates n c) g behind;
+    } in
+    let now = outs_to before.0 g (length g.outs) fits (omega arith) in (
+      now.0,
+      subst (wires.EvaluatedTo c inputs now.0) (add-one n)
+          (wires.evaluated_more c inputs before.0 now.0 n g built there.1 before.1 now.1.count
+          (wires.set_met before.0 now.0 g (length g.outs) fits.arity fits.others (omega arith) now.1)
+          (wires.set_kept before.0 now.0 g (length g.outs) (omega arith) now.1)),
+    )
+
+wire_bits : (c : bristol.Circuit) (inputs : List (List Bool)) →
+    IsBuilt c → bristol_table.HaveInputWidths c inputs →
+    (made : List Bool) × bristol_eval.AreWireBits c inputs made
+wire_bits c inputs built widths =
+    let all = wires_to c inputs (length c.gates) built widths (omega arith) in
+    (all.0, wires.evaluated_all c inputs all.0 (length c.gates) (omega arith) all.1)
+
+outputs_width : (at : ℕ) (widths : List ℕ) → total_width (bristol_table.outputs_from at widths) ≡ sum widths
+outputs_width at [] = refl
+outputs_width at (w ∷ widths) =
+    ap (λ (n : ℕ). w + n) (outputs_width (at + 1) widths) ∙ sym (sum_by-cons (λ n. n) w widths)
+
+length_outputs : (c : bristol.Circuit) (inputs : List (List Bool)) (made : List Bool) →
+    IsBuilt c → bristol_eval.AreWireBits c inputs made →
+    length (bristol_eval.output_bits c made) ≡ sum c.outputs
+length_outputs c inputs made built are =
+    let few = built.few_outputs in
+    let count = are.count in
+    length-drop (c.wires - sum c.outputs) made ∙ omega (arith, few, count)
+
+bristol_plain : (c : bristol.Circuit) (v : List (List Bool)) → IsBuilt c → bristol_table.HaveInputWidths c v →
+    (outputs : List Told) × bristol_eval.IsPlain c v outputs
+bristol_plain c v built widths =
+    let made = wire_bits c v built widths in
+    let table = bristol_table.outputs_of c in
+    let left = bristol_eval.output_bits c made.0 in (
+      cut_of table left,
+      record {
+        bits = made.0;
+        wires = made.1;
+        told = cut_is_cut table left (outputs_width 0 c.outputs ∙ sym (length_outputs c v made.0 built made.1));
+      },
+    )
+
+-- each circuit that is whole has a plain evaluation on values of its inputs
+pub plain_exists : (c : Circuit) (v : List (List Bool)) → IsWhole c → HaveWidths None (inputs_of c) v →
+    (outputs : List Told) × IsPlain c v outputs
+plain_exists (Mixed c) v whole widths = mixed_plain c v
+plain_exists (InBristol b c) v whole widths =
+    bristol_plain c v whole.0.built
+    (have_widths b.parties c (bristol_table.inputs_of b.parties c) refl v widths)
+
+-- ---- how many bits a party is told
+
+-- the bits of vectors, of which each has the width of its gate
+vectors_width : (width number_of : ℕ → ℕ) (gs : List ℕ) →
+    length (flat_map (λ g. bits (width g) (number_of g)) gs) ≡ sum (map width gs)
+vectors_width width number_of [] = refl
+vectors_width width number_of (g ∷ gs) =
+    length-append (bits (width g) (number_of g)) (flat_map (λ k. bits (width k) (number_of k)) gs)
+    ∙ (ap₂ (λ (n m : ℕ). n + m) (length-bits (width g) (number_of g)) (vectors_width width number_of gs)
+    ∙ sym (sum_by-cons (λ n. n) (width g) (map width gs)))
+
+-- there is a number for each gate
+length_plain : (gates : List Gate) (inputs : List ℕ) (n : ℕ) → length (plain_before gates inputs n) ≡ n
+length_plain gates inputs zero = refl
+length_plain gates inputs (suc n) =
+    length_push (plain_before gates inputs n)
+    (number_at gates inputs (plain_before gates inputs n) (slice_get gates n))
+    ∙ (ap (λ (k : ℕ). k + 1) (length_plain gates inputs n) ∙ add-one n)
+
+-- so many bits are told to a party as those of its output gates together
+told_width : (plan : Gates) (inputs : List ℕ) (p : ℕ) →
+    sum (map (width_at plan.gates) (told_to plan p))
+    ≡ length (bits_of_entries (told_by plan.gates (plain_numbers plan inputs)) p)
+told_width plan inputs p =
+    let numbers = plain_numbers plan inputs in
+    let count = length_plain plan.gates inputs (length plan.gates) in
+    sym (vectors_width (width_at plan.gates) (slice_index numbers) (told_to plan p))
+    ∙ ap length (told_bits_are_those_of_outputs plan numbers p count)
+
+-- the outputs of a table that a party is told
+abbrev asked_by : ℕ → List Output → List Output
+asked_by p outputs = asked (Some (record { 0 = p })) outputs
+
+-- what a mixed circuit tells a party has as many bits as the outputs that it is told
+module _ (all : List Statement) (made : List ℕ) (p : ℕ) where
+  abbrev width_told : Statement → ℕ
+  width_told s = mixed_table.width_at all (mixed_table.told_value s)
+
+  abbrev number_told : Statement → ℕ
+  number_told s = slice_index made (mixed_table.told_value s)
+
+  abbrev told_by_it : Statement → Told
+  told_by_it s = record {
+    name = mixed_table.name_at all (mixed_table.told_value s);
+    to = mixed_table.receiver_of s.shape.party;
+    bits = bits (width_told s) (number_told s);
+  }
+
+  abbrev entry : Statement → Output
+  entry s = record {
+    name = mixed_table.name_at all (mixed_table.told_value s);
+    to = mixed_table.receiver_of s.shape.party;
+    width = width_told s;
+  }
+
+  abbrev told_it : List Told → List GateTold
+  told_it ts = filter (λ (e : GateTold). is_told e.to p) (map unnamed ts)
+
+  one_entry : (s : Statement) (more : List Told) (others : List Output) (b : Bool) →
+      length (bits_of_entries (map unnamed more) p) ≡ total_width (asked_by p others) →
+      length (flat_map (λ (e : GateTold). e.bits) (cond b (unnamed (told_by_it s) ∷ told_it more) (told_it more)))
+      ≡ total_width (cond b (entry s ∷ asked_by p others) (asked_by p others))
+  one_entry s more others true rest =
+      length-append (bits (width_told s) (number_told s)) (bits_of_entries (map unnamed more) p)
+      ∙ ap₂ (λ (n m : ℕ). n + m) (length-bits (width_told s) (number_told s)) rest
+  one_entry s more others false rest = rest
+
+  one_more : (s : Statement) (more : List Told) (others : List Output) (b : Bool) →
+      length (bits_of_entries (map unnamed more) p) ≡ total_width (asked_by p others) →
+      length (bits_of_entries (map unnamed (cond b (told_by_it s ∷ []) [] ++ more)) p)
+      ≡ total_width (asked_by p (cond b (entry s ∷ []) [] ++ others))
+  one_more s more others true rest = one_entry s more others (is_told (entry s).to p) rest
+  one_more s more others false rest = rest
+
+  entries_width : (ss : List Statement) →
+      length (bits_of_entries (map unnamed (mixed_eval.told_among all made ss)) p)
+      ≡ total_width (asked_by p (mixed_table.outputs_among all ss))
+  entries_width [] = refl
+  entries_width (s ∷ ss) =
+      one_more s (mixed_eval.told_among all made ss) (mixed_table.outputs_among all ss)
+      (states is_told_slot s.shape.operation) (entries_width ss)
+
+mixed_widths : (c : mixed.Circuit) (plan : Gates) (p : ℕ) → KeepsEvaluation c plan →
+    total_width (asked_by p (mixed_table.outputs_of c)) ≡ sum (map (width_at plan.gates) (told_to plan p))
+mixed_widths c plan p keeps =
+    let made = evaluated c.statements [] in
+    sym (told_width plan [] p
+    ∙ (ap (λ (es : List GateTold). length (bits_of_entries es p)) (keeps [] made.0 made.1).told_kept
+    ∙ entries_width c.statements made.0 p c.statements))
+
+-- all bits of a circuit in Bristol Fashion are told to all
+all_told : (p : ℕ) (bs : List Bool) → length (bits_of_entries (told_bits bs) p) ≡ length bs
+all_told p [] = refl
+all_told p (b ∷ bs) = ap suc (all_told p bs)
+
+all_asked : (p at : ℕ) (widths : List ℕ) →
+    total_width (asked_by p (bristol_table.outputs_from at widths)) ≡ sum widths
+all_asked p at [] = refl
+all_asked p at (w ∷ widths) =
+    ap (λ (n : ℕ). w + n) (all_asked p (at + 1) widths) ∙ sym (sum_by-cons (λ n. n) w widths)
+
+abbrev zeros : List ℕ → List (List Bool)
+zeros widths = map (λ (w : ℕ). replicate w false) widths
+
+zeros_widths : (widths : List ℕ) → map (λ (v : List Bool). length v) (zeros widths) ≡ widths
+zeros_widths [] = refl
+zeros_widths (w ∷ widths) =
+    ap₂ (λ (n : ℕ) (ns : List ℕ). n ∷ ns) (length-replicate w false) (zeros_widths widths)
+
+bristol_widths : (c : bristol.Circuit) (plan : Gates) (p : ℕ) → IsBuilt c → KeepsBristol c plan →
+    total_width (asked_by p (bristol_table.outputs_of c)) ≡ sum (map (width_at plan.gates) (told_to plan p))
+bristol_widths c plan p built keeps =
+    let none = zeros c.inputs in
+    let widths : bristol_table.HaveInputWidths c none = record { widths = zeros_widths c.inputs } in
+    let made = wire_bits c none built widths in
+    all_asked p 0 c.outputs
+    ∙ sym (told_width plan (map number none) p
+    ∙ (ap (λ (es : List GateTold). length (bits_of_entries es p)) (keeps none made.0 widths made.1)
+    ∙ (all_told p (bristol_eval.output_bits c made.0) ∙ length_outputs c none made.0 built made.1)))
+
+-- the outputs that a party is told have as many bits together as the gates that tell it their values
+pub told_widths : (c : Circuit) (p : ℕ) → IsWhole c → Keeps c (plan_of c) →
+    total_width (asked (Some (record { 0 = p })) (outputs_of c))
+    ≡ sum (map (width_at (plan_of c).gates) (told_to (plan_of c) p))
+told_widths (Mixed c) p whole keeps = mixed_widths c (plan_of (Mixed c)) p keeps
+told_widths (InBristol b c) p whole keeps = bristol_widths c (plan_of (InBristol b c)) p whole.0.built keeps
+
+-- ---- a party is told the outputs of the plain evaluation
+
+mixed_tells : (c : mixed.Circuit) (plan : Gates) (p : ℕ) (v : List (List Bool)) (told : List Bits)
+    (outputs all : List Told) →
+    KeepsEvaluation c plan → AreToldInPlain plan (map number v) p told → mixed_eval.IsPlain c v all →
+    AreCut (asked_by p (mixed_table.outputs_of c)) (joined_bits told) outputs → outputs ≡ outputs_to p all
+mixed_tells c plan p v told outputs all keeps are plain cut =
+    let kept = keeps (map number v) plain.values plain.evaluated in
+    cuts_once (asked_by p (mixed_table.outputs_of c)) (joined_bits told) outputs
+    (outputs_to p (mixed_eval.told_of c plain.values)) cut
+    (mixed_outputs_are_told c plan (map number v) plain.values p told kept are)
+    ∙ ap (outputs_to p) (sym plain.told)
+
+bristol_tells : (c : bristol.Circuit) (plan : Gates) (p : ℕ) (v : List (List Bool)) (told : List Bits)
+    (outputs all : List Told) →
+    KeepsBristol c plan → bristol_table.HaveInputWidths c v →
+    AreToldInPlain plan (map number v) p told → bristol_eval.IsPlain c v all →
+    AreCut (asked_by p (bristol_table.outputs_of c)) (joined_bits told) outputs → outputs ≡ outputs_to p all
+bristol_tells c plan p v told outputs all keeps widths are plain cut =
+    cuts_once (asked_by p (bristol_table.outputs_of c)) (joined_bits told) outputs (outputs_to p all) cut
+    (bristol_outputs_are_told c plan v plain.bits all p told keeps widths plain.wires plain.told are)
+
+-- the outputs that are cut of what a party is told in plain are those of the plain evaluation that it is told
+pub tells_plainly : (c : Circuit) (p : ℕ) (v : List (List Bool)) (told : List Bits) (outputs all : List Told) →
+    IsWhole c → Keeps c (plan_of c) → HaveWidths None (inputs_of c) v →
+    AreToldInPlain (plan_of c) (map number v) p told → IsPlain c v all →
+    AreCut (asked (Some (record { 0 = p })) (outputs_of c)) (joined_bits told) outputs →
+    outputs ≡ report.told_to p all
+tells_plainly (Mixed c) p v told outputs all whole keeps widths are plain cut =
+    mixed_tells c (plan_of (Mixed c)) p v told outputs all keeps are plain cut
+tells_plainly (InBristol b c) p v told outputs all whole keeps widths are plain cut =
+    bristol_tells c (plan_of (InBristol b c)) p v told outputs all keeps
+    (have_widths b.parties c (bristol_table.inputs_of b.parties c) refl v widths) are plain cut

@@ -1,0 +1,129 @@
+//! The command `local`: all parties of a circuit in one process.
+
+ghost use Rattle.std.specs.Prelude.{◌≡◌, ◌≤◌, ◌⊎◌, length, map, None, option_map, IfOk, IfErr, string_bytes};
+ghost use Rattle.mot_base.specs.Faults.{Rose};
+ghost use Rattle.mot_base.specs.Limits.{most_file_bytes};
+ghost use Rattle.cli_words.specs.Request.{local_request};
+ghost use Rattle.circuit_values.specs.Values.{HaveWidths};
+ghost use Rattle.local_engine.specs.Inputs.{TakesInputs};
+ghost use Rattle.local_engine.specs.OneSeed.{ServeAll};
+ghost use Rattle.motion_cli.specs.Circuits as any;
+ghost use Rattle.motion_cli.specs.Circuits.{circuit_of, inputs_of, parties_of, IsWhole, Keeps};
+ghost use Rattle.motion_cli.specs.Commands.{LocalReads, LocalTexts, LocalEnds, ReportsRun};
+ghost use Rattle.motion_cli.specs.Dealer.{part_names};
+ghost use Rattle.motion_cli.specs.Outcome.{memory, reported};
+ghost use Rattle.motion_cli.specs.Refusal.{came_to};
+ghost use Rattle.motion_cli.specs.Run.{AreHonestParts, owns_in};
+
+use crate::circuit::Circuit;
+use crate::commands::{circuit_of, plan_of, values_of};
+use crate::dealer::{load_parts, parts_of};
+use crate::load::load_both;
+use crate::refusal::Refusal;
+use crate::report::report_runs;
+use circuit_values::Values;
+use cli_words::LocalWords;
+use dealer_files::DealerPart;
+use gate_plan::Plan;
+use local_engine::{LocalJob, local_turns};
+use mot_base::{Files, NoMemory};
+use std::alloc::Global;
+
+/// The report of `local`: for each party, the outputs that it is told, and the digest of all that it sent.
+pub(crate) fn local_report<'a, F: Files>(
+    alloc: Global,
+    words: &'a LocalWords,
+    files: &mut F,
+) -> Result<String, Refusal<'a>>
+    ensures came { LocalEnds (F.holds files.old) (Rose (F.faults files.old) (F.faults files.new))
+        (local_request words.entry.now) (came_to result)
+        ⊎ (came_to result ≡ memory) }
+    ensures same { F.holds files.new ≡ F.holds files.old }
+    ensures never_falls { F.faults files.old ≤ F.faults files.new }
+{
+    let (circuit, values) = load_both(alloc, files, words.circuit.as_str(), words.values.as_str())?;
+    run_texts(alloc, words, files, circuit, values)
+}
+
+/// The same, once circuit and values are loaded.
+fn run_texts<'a, F: Files>(
+    alloc: Global,
+    words: &'a LocalWords,
+    files: &mut F,
+    circuit: Vec<u8>,
+    values: Vec<u8>,
+) -> Result<String, Refusal<'a>>
+    requires circuit { length circuit.items ≤ most_file_bytes }
+    requires values { length values.items ≤ most_file_bytes }
+    ensures came { LocalTexts (F.holds files.old) (Rose (F.faults files.old) (F.faults files.new))
+        (local_request words.entry.now) circuit.items values.items (came_to result)
+        ⊎ (came_to result ≡ memory) }
+    ensures same { F.holds files.new ≡ F.holds files.old }
+    ensures never_falls { F.faults files.old ≤ F.faults files.new }
+{
+    let circuit = circuit_of(alloc, words.circuit.as_str(), words.bristol, circuit)?;
+    let parts = load_parts(alloc, files, prefix_of(words), circuit.parties())?;
+    run_circuit(alloc, words, &circuit, values, parts)
+}
+
+/// What the names of the files of dealer parts begin with, where they are to be loaded.
+fn prefix_of(words: &LocalWords) -> Option<&str>
+    ensures { option_map (λ text. text.now) result ≡ option_map string_bytes words.now.dealer }
+{
+    words.dealer.as_ref().map(|prefix| prefix.as_str())
+}
+
+/// The same, once all files are loaded and the circuit is read.
+fn run_circuit<'a>(
+    alloc: Global,
+    words: &'a LocalWords,
+    circuit: &Circuit,
+    values: Vec<u8>,
+    parts: Vec<Vec<u8>>,
+) -> Result<String, Refusal<'a>>
+    requires whole { IsWhole (circuit_of circuit.now) }
+    requires values { length values.items ≤ most_file_bytes }
+    requires parts { length parts.items
+        ≡ length (part_names (option_map string_bytes words.now.dealer) (parties_of (circuit_of circuit.now))) }
+    ensures { LocalReads (local_request words.entry.now) values.items (circuit_of circuit.now)
+        (map (λ text. text.items) parts.items) (came_to result)
+        ⊎ (came_to result ≡ memory) }
+{
+    let plan = plan_of(alloc, words.circuit.as_str(), circuit)?;
+    let values = values_of(alloc, words.values.as_str(), circuit, values)?;
+    let parts = parts_of(
+        alloc,
+        prefix_of(words),
+        &words.seed,
+        &plan,
+        parts.as_slice(),
+    )?;
+    Ok(run_and_report(alloc, words, circuit, plan, &values, parts.as_slice())?)
+}
+
+/// Runs all parties, and reports what each is told and the digest of what it sent.
+fn run_and_report(
+    alloc: Global,
+    words: &LocalWords,
+    circuit: &Circuit,
+    plan: Plan,
+    values: &Values,
+    parts: &[DealerPart],
+) -> Result<String, NoMemory>
+    requires whole { IsWhole (circuit_of circuit.now) }
+    requires plan { plan ≡ any.plan_of (circuit_of circuit.now) }
+    requires keeps { Keeps (circuit_of circuit.now) plan }
+    requires takes { TakesInputs (inputs_of (circuit_of circuit.now)) plan }
+    requires widths { HaveWidths None (inputs_of (circuit_of circuit.now)) values.now }
+    requires serve { ServeAll plan parts.now }
+    ensures { IfOk result (λ text. ReportsRun (AreHonestParts parts.now) (circuit_of circuit.now) values.now
+        (owns_in (local_request words.now) (circuit_of circuit.now) values.now parts.now)
+        (reported (string_bytes text))) }
+{
+    let _parties = plan.parties();
+    let inputs = circuit.inputs(alloc)?;
+    let job = LocalJob::of_seed(alloc, plan, &words.seed, &inputs, values)?;
+    let reports = local_turns(alloc, &job, parts)?;
+    let outputs = circuit.outputs(alloc)?;
+    report_runs(alloc, circuit.notation(), &outputs, reports.as_slice())
+}
