@@ -7,6 +7,7 @@
 #![tactic(auto)]
 
 mod dealer;
+mod floor;
 mod messages;
 mod plans;
 mod shares;
@@ -19,7 +20,7 @@ use std::env;
 use std::time::Instant;
 
 /// What can be done, by name. A work is given how many times it is done, and gives a number that shows it.
-static WORKS: [(&str, Work); 14] = [
+static WORKS: [(&str, Work); 15] = [
     ("words", Work::Words),
     ("shares-of-two", Work::SharesOfTwo),
     ("shares-of-eight", Work::SharesOfEight),
@@ -29,6 +30,7 @@ static WORKS: [(&str, Work); 14] = [
     ("frames-by-1", Work::FramesBy1),
     ("frames-by-1448", Work::FramesBy1448),
     ("frames-by-65536", Work::FramesBy65536),
+    ("frames-hashed", Work::FramesHashed),
     ("deal", Work::Deal),
     ("deal-floor", Work::DealFloor),
     ("read-keys", Work::ReadKeys),
@@ -56,6 +58,8 @@ enum Work {
     FramesBy1448,
     /// The same from pieces of 65,536 bytes.
     FramesBy65536,
+    /// So many frames of 26 bytes are written one after another, and SHA-256 of all is taken.
+    FramesHashed,
     /// So many bit triples and three tenths as many key bits are dealt to three parties and written.
     Deal,
     /// As many words are drawn as that draws, and written.
@@ -81,6 +85,7 @@ impl Work {
             Work::FramesBy1 => Ok(messages::read_in_pieces(alloc, size, 1)?),
             Work::FramesBy1448 => Ok(messages::read_in_pieces(alloc, size, 1448)?),
             Work::FramesBy65536 => Ok(messages::read_in_pieces(alloc, size, 65_536)?),
+            Work::FramesHashed => Ok(floor::hash_frames(alloc, size)?),
             Work::Deal => Ok(dealer::deal_to_three(alloc, size)?),
             Work::DealFloor => Ok(dealer::draw_and_write(alloc, size)?),
             Work::ReadKeys => Ok(dealer::read_keys(alloc, size)?),

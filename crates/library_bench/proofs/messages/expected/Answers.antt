@@ -1,4 +1,4 @@
-use Rattle.std.proofs.Common.{refl, lit≤, arith, rules}
+use Rattle.std.proofs.Common.{refl, lit≤, rules}
 use Rattle.library_bench.proofs.Rising.{none_below, one_more, listed}
 use Rattle.library_bench.proofs.messages.expected.Goals as goal
 
