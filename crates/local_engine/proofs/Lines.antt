@@ -11,7 +11,7 @@ use Rattle.share_types.specs.declared.bits.Bits.{Bits}
 use Rattle.frames.specs.declared.frame.Frame.{Frame}
 use Rattle.frames.specs.declared.frame.Frame.TheVariants as frame
 use Rattle.sha2.specs.Sha256.{sha256}
-use Rattle.frames.specs.Bytes.{IsSendable, joined}
+use Rattle.frames.specs.Bytes.{IsSendable, canonical, joined}
 use Rattle.gate_plan.specs.Gate.{Kind, Gate, InA, ConstA, AddA, SubA, AddConstA, MulConstA, MulA, OutA, InB, ConstB, XorB, XorConstB, SliceB, JoinB, AndB, OutB, width_at}
 use Rattle.gate_plan.specs.declared.message.Message.{Message as Sent}
 use Rattle.gate_plan.specs.Plan.{Gates, IsPlan}
@@ -271,11 +271,31 @@ frames_append (l ∷ ls) (c ∷ cs) (suc i) d e a b =
     rw next (ap (λ (fs : List Frame). frame_of l c ++ fs) (frames_append ls cs i d e (omega (arith, a)) (omega (arith, b)))
     ∙ sym (append_assoc (frame_of l c) (frames_of (take i ls) (take i cs)) (frame_of (get_or ls i d) (get_or cs i e))))
 
--- one load more
-pub frames_next : (ls : List Load) (cs : List Cargo) (i : ℕ) (d : Load) (c : Cargo) (more : List Frame) (old new : List Frame) → i < length ls → length cs ≡ length ls → c ≡ get_or cs i c → more ≡ frame_of (get_or ls i d) c → old ≡ frames_of (take i ls) (take i cs) → new ≡ old ++ more → new ≡ frames_of (take (i + 1) ls) (take (i + 1) cs)
-frames_next ls cs i d c more old new within long read is before next =
-    next ∙ ap₂ (λ (xs ys : List Frame). xs ++ ys) before (is ∙ ap (frame_of (get_or ls i d)) read)
-    ∙ sym (frames_append ls cs i d c within (omega (arith, within, long)))
+-- the bytes of one load more
+pub joined_next : (ls : List Load) (cs : List Cargo) (i : ℕ) (d : Load) (c : Cargo) → i < length ls → length cs ≡ length ls → c ≡ get_or cs i c →
+    joined (frames_of (take i ls) (take i cs)) ++ joined (frame_of (get_or ls i d) c) ≡ joined (frames_of (take (i + 1) ls) (take (i + 1) cs))
+joined_next ls cs i d c within long read =
+    ap (λ (e : Cargo). joined (frames_of (take i ls) (take i cs)) ++ joined (frame_of (get_or ls i d) e)) read
+    ∙ (sym (flat_map-append canonical (frames_of (take i ls) (take i cs)) (frame_of (get_or ls i d) (get_or cs i c)))
+    ∙ ap joined (sym (frames_append ls cs i d c within (omega (arith, within, long)))))
+
+-- what holds of the frames of all loads holds of each one's
+in_front : (P : Frame → Type 0) (xs ys : List Frame) → All P (xs ++ ys) → All P xs
+in_front P [] ys all i d h = absurd (omega (arith, h))
+in_front P (x ∷ xs) ys all zero d h = all 0 d (omega arith)
+in_front P (x ∷ xs) ys all (suc i) d h = in_front P xs ys (λ j e k. all (suc j) e (omega (arith, k))) i d (omega (arith, h))
+
+from_behind : (P : Frame → Type 0) (xs ys : List Frame) → All P (xs ++ ys) → All P ys
+from_behind P [] ys all = all
+from_behind P (x ∷ xs) ys all = from_behind P xs ys (λ j e k. all (suc j) e (omega (arith, k)))
+
+pub each_sendable : (P : Frame → Type 0) (ls : List Load) (cs : List Cargo) (i : ℕ) (d : Load) (c : Cargo) → i < length ls → length cs ≡ length ls →
+    All P (frames_of ls cs) → All P (frame_of (get_or ls i d) (get_or cs i c))
+each_sendable P [] cs i d c within long all = absurd (omega (arith, within))
+each_sendable P (l ∷ ls) [] i d c within long all = absurd (omega (arith, long))
+each_sendable P (l ∷ ls) (e ∷ cs) zero d c within long all = in_front P (frame_of l e) (frames_of ls cs) all
+each_sendable P (l ∷ ls) (e ∷ cs) (suc i) d c within long all =
+    each_sendable P ls cs i d c (omega (arith, within)) (omega (arith, long)) (from_behind P (frame_of l e) (frames_of ls cs) all)
 
 -- what holds at each place, and of one more at the end
 pushed : {X : Type 0} (P : ℕ → X → Type 0) (xs : List X) (x : X) → ((q : ℕ) (y : X) → slice_get xs q ≡ Some y → P q y) → P (length xs) x → (q : ℕ) (y : X) → slice_get (xs ++ x ∷ []) q ≡ Some y → P q y

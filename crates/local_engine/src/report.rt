@@ -15,10 +15,11 @@ ghost use Rattle.local_engine.specs.Report.{bits_told, frame_of, frames_of, AreR
 use crate::cargo::Cargo;
 use crate::item::Load;
 use crate::loads::{push_sent, push_told};
-use frames::{Frame, digest};
+use frames::{Frame, write_frame};
 use gate_plan::Plan;
 use gate_tasks::Value;
 use mot_base::{NoMemory, Party};
+use sha2::{Digest, Sha256};
 use share_types::BitsList;
 use std::alloc::Global;
 
@@ -72,8 +73,7 @@ fn report(
     ensures digest { IfOk result (λ report. report.digest ≡ sha256 (joined (frames_of loads.now sent.now))) }
 {
     let told = told_bits(alloc, told)?;
-    let messages = frames(alloc, loads, sent)?;
-    let digest = digest(alloc, &messages)?;
+    let digest = digest_of(alloc, loads, sent)?;
     Ok(PartyReport { told, digest })
 }
 
@@ -91,19 +91,29 @@ fn told_bits(alloc: Global, told: &[Cargo]) -> Result<BitsList, NoMemory>
     Ok(BitsList::new(list))
 }
 
-/// The frames of payloads.
-fn frames(alloc: Global, loads: &[Load], sent: &[Cargo]) -> Result<Vec<Frame>, NoMemory>
-    requires { length sent.now ≡ length loads.now }
-    ensures { IfOk result (λ frames. frames.items ≡ frames_of loads.now sent.now) }
+/// SHA-256 of the frames of payloads, one after another.
+fn digest_of(alloc: Global, loads: &[Load], sent: &[Cargo]) -> Result<[u8; 32], NoMemory>
+    requires count { length sent.now ≡ length loads.now }
+    requires sendable { All IsSendable (frames_of loads.now sent.now) }
+    ensures { IfOk result (λ digest. digest ≡ sha256 (joined (frames_of loads.now sent.now))) }
 {
-    let mut frames = Vec::with_capacity(alloc, loads.len())?;
+    let mut hasher = Sha256::new();
     for (at, load) in loads.iter().enumerate() {
-        let Some(frame) = frame(alloc, *load, &sent[at])? else {
-            continue;
-        };
-        frames.push(frame)?;
+        let bytes = frame_bytes(alloc, *load, &sent[at])?;
+        hasher.update(bytes.as_slice());
     }
-    Ok(frames)
+    Ok(hasher.finalize())
+}
+
+/// The bytes of the frame of a payload, and none where it is no payload.
+fn frame_bytes(alloc: Global, load: Load, cargo: &Cargo) -> Result<Vec<u8>, NoMemory>
+    requires { All IsSendable (frame_of load cargo.now) }
+    ensures { IfOk result (λ bytes. bytes.items ≡ joined (frame_of load cargo.now)) }
+{
+    match frame(alloc, load, cargo)? {
+        Some(frame) => write_frame(alloc, &frame),
+        None => Ok(Vec::new(alloc)),
+    }
 }
 
 /// The frame of a payload, where it is one.
