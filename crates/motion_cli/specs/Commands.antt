@@ -109,7 +109,8 @@ LocalTexts told rose request circuit values =
 
 -- `local`: a run of all parties
 abbrev pub LocalEnds : Option Holding → Type 0 → LocalRequest → Outcome → Type 0
-LocalEnds told rose request = LoadsBoth told rose request.circuit request.values (LocalTexts told rose request)
+LocalEnds told rose request =
+    LoadsBoth told rose request.circuit request.values (LocalTexts told rose request)
 
 -- `deal`: parts that are too long are told by the name of the first, and else each party's part is stored
 abbrev pub DealEnds : Option Holding → Type 0 → DealRequest → Outcome → Type 0

@@ -61,14 +61,16 @@ Holds file part = IsFile file part × IsOfNumbers part
 -- parts are read of files, in their order, and each is as expected
 pub record AreRead (parties : ℕ) (files : List Text) (parts : List Part) : Type 0 where
   pub count : length parts ≡ length files
-  pub each : (at : ℕ) (file : Text) (part : Part) → slice_get files at ≡ Some file → slice_get parts at ≡ Some part →
+  pub each : (at : ℕ) (file : Text) (part : Part) →
+      slice_get files at ≡ Some file → slice_get parts at ≡ Some part →
       Holds file part × (difference parties at (get_or parts 0 part) part ≡ None)
 
 -- a file shows this first, where these are the parts before it
 abbrev pub Shows : ℕ → List Part → Text → PartFault → Type 0
 Shows parties before file (Unread cause) = IsFirstFault file cause
 Shows parties before file (Differs found) =
-    (part : Part) × Holds file part × (difference parties (length before) (get_or before 0 part) part ≡ Some found)
+    (part : Part) × Holds file part
+    × (difference parties (length before) (get_or before 0 part) part ≡ Some found)
 
 -- the first file with a fault: those before it are read
 pub record IsFaulty (parties : ℕ) (files : List Text) (at : ℕ) (fault : PartFault) : Type 0 where
@@ -95,7 +97,8 @@ shortage needs stock kind =
 
 -- a run has these parts: exactly what it needs, dealt under its seed, or those of the files, which are enough
 abbrev pub AreTaken : Option Text → List ℕ → Circuit → List Text → List Part → Type 0
-AreTaken None seed c files parts = parts ≡ parts_drawn (dealer_seed seed) (parties_of c) (all_needs (plan_of c))
+AreTaken None seed c files parts =
+    parts ≡ parts_drawn (dealer_seed seed) (parties_of c) (all_needs (plan_of c))
 AreTaken (Some prefix) seed c files parts = AreRead (parties_of c) files parts × AreEnough c parts
 
 -- or it has none: a file shows a fault, or there are too few records

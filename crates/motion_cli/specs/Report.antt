@@ -17,7 +17,8 @@ use Rattle.motion_cli.specs.declared.report.Notation.TheVariants.{Decimal, Hexad
 -- bits as so many lower-case hexadecimal digits, each of four bits, the highest digit first
 abbrev pub hexadecimal_digits : ℕ → List Bool → Text
 hexadecimal_digits zero bits = []
-hexadecimal_digits (suc more) bits = hexadecimal_digits more (drop 4 bits) ++ digits 16 false (number (take 4 bits))
+hexadecimal_digits (suc more) bits =
+    hexadecimal_digits more (drop 4 bits) ++ digits 16 false (number (take 4 bits))
 
 -- how the bits of an output are written
 abbrev pub written : Notation → List Bool → Text

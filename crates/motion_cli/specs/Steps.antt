@@ -33,11 +33,13 @@ Loads told rose name next end =
 -- files are loaded, one for each name in order
 pub record AreContents (told : Option Holding) (names contents : List Text) : Type 0 where
   pub count : length contents ≡ length names
-  pub each : (at : ℕ) (name content : Text) → slice_get names at ≡ Some name → slice_get contents at ≡ Some content →
+  pub each : (at : ℕ) (name content : Text) →
+      slice_get names at ≡ Some name → slice_get contents at ≡ Some content →
       IsContent told name content
 
 -- the first file that is not loaded: those before it are
-pub record IsFirstUnloaded (told : Option Holding) (rose : Type 0) (names : List Text) (end : Outcome) : Type 0 where
+pub record IsFirstUnloaded (told : Option Holding) (rose : Type 0) (names : List Text)
+    (end : Outcome) : Type 0 where
   pub at : ℕ
   pub name : Text
   pub there : slice_get names at ≡ Some name

@@ -56,7 +56,8 @@ pub(crate) fn read_circuit(
     text: &[u8],
 ) -> Result<Circuit, ReadError>
     requires { length text.now ≤ most_file_bytes }
-    ensures ok { IfOk result (λ circuit. Reads (option_map bristol_of bristol) text.now (circuit_of circuit)) }
+    ensures ok { IfOk result (λ circuit.
+        Reads (option_map bristol_of bristol) text.now (circuit_of circuit)) }
     ensures at { IfErr result (λ error. IsFirstFault (option_map bristol_of bristol) text.now error) }
 {
     match bristol {
@@ -198,7 +199,8 @@ fn mixed_plan(alloc: Global, circuit: &Mixed) -> Result<Plan, PlanError>
     ensures takes { IfOk result (λ plan. TakesInputs (mixed_table.inputs_of circuit.now.statements) plan) }
     ensures not_built { IsErrOf result PlanError.NotBuilt ↔ (all_built circuit.now ≡ false) }
     ensures too_many { (gates : ℕ) → IsErrOf result (PlanError.TooManyGates gates) ↔
-        ((all_built circuit.now ≡ true) × (most_gates < all_gates circuit.now) × (gates ≡ all_gates circuit.now)) }
+        ((all_built circuit.now ≡ true) × (most_gates < all_gates circuit.now)
+        × (gates ≡ all_gates circuit.now)) }
 {
     let _statements = circuit.len();
     lower_mixed(alloc, circuit)

@@ -153,7 +153,8 @@ pub(crate) fn circuit_of<'a>(
     text: Vec<u8>,
 ) -> Result<Circuit, Refusal<'a>>
     requires { length text.items ≤ most_file_bytes }
-    ensures ok { IfOk result (λ circuit. Reads (option_map bristol_of bristol) text.items (circuit_of circuit)) }
+    ensures ok { IfOk result (λ circuit.
+        Reads (option_map bristol_of bristol) text.items (circuit_of circuit)) }
     ensures err { IfErr result (λ refusal.
         ((fault : Fault CircuitFault)
         × FirstFault (option_map bristol_of bristol) text.items fault.line fault.cause

@@ -67,7 +67,8 @@ pub(crate) fn load_parts<'a, F: Files>(
     parties: u8,
 ) -> Result<Vec<Vec<u8>>, Refusal<'a>>
     ensures ok { IfOk result (λ texts. AreContents (F.holds files.old)
-        (part_names (option_map (λ text. text.now) prefix.entry) parties) (map (λ text. text.items) texts.items)) }
+        (part_names (option_map (λ text. text.now) prefix.entry) parties)
+        (map (λ text. text.items) texts.items)) }
     ensures err { IfErr result (λ refusal.
         IsFirstUnloaded (F.holds files.old) (Rose (F.faults files.old) (F.faults files.new))
         (part_names (option_map (λ text. text.now) prefix.entry) parties) (outcome_of refusal)
@@ -145,11 +146,14 @@ pub(crate) fn parts_of<'a>(
     plan: &Plan,
     files: &[Vec<u8>],
 ) -> Result<Vec<DealerPart>, Refusal<'a>>
-    requires files { length files.now ≡ length (part_names (option_map (λ text. text.now) prefix) plan.now.parties) }
-    ensures taken { (c : Circuit) → plan.now ≡ any.plan_of c → plan.now.parties ≡ parties_of c → IfOk result (λ parts.
+    requires files { length files.now
+        ≡ length (part_names (option_map (λ text. text.now) prefix) plan.now.parties) }
+    ensures taken { (c : Circuit) → plan.now ≡ any.plan_of c → plan.now.parties ≡ parties_of c →
+        IfOk result (λ parts.
         AreTaken (option_map (λ text. text.now) prefix.entry) seed.now.0 c
         (map (λ text. text.items) files.now) parts.items) }
-    ensures err { (c : Circuit) → plan.now ≡ any.plan_of c → plan.now.parties ≡ parties_of c → IfErr result (λ refusal.
+    ensures err { (c : Circuit) → plan.now ≡ any.plan_of c → plan.now.parties ≡ parties_of c →
+        IfErr result (λ refusal.
         IsUntaken (option_map (λ text. text.now) prefix.entry) c
         (map (λ text. text.items) files.now) (outcome_of refusal)
         ⊎ (outcome_of refusal ≡ memory)) }
@@ -169,7 +173,8 @@ fn judge_stock<'a>(plan: &Plan, parts: &[DealerPart]) -> Result<(), Refusal<'a>>
     requires { 0 < length parts.now }
     ensures enough { OnOk result
         ((kind : Kind) → count_of (all_needs plan.now) kind ≤ count_of (stock_of parts.now) kind) }
-    ensures short { IfErr result (λ refusal. (kind : Kind) × IsFirstShort (all_needs plan.now) (stock_of parts.now) kind
+    ensures short { IfErr result (λ refusal. (kind : Kind)
+        × IsFirstShort (all_needs plan.now) (stock_of parts.now) kind
         × (outcome_of refusal ≡ few_refused (shortage (all_needs plan.now) (stock_of parts.now) kind))) }
 {
     plan.needs().within(&parts[0].counts())?;

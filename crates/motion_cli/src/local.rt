@@ -84,7 +84,8 @@ fn run_circuit<'a>(
     requires whole { IsWhole (circuit_of circuit.now) }
     requires values { length values.items ≤ most_file_bytes }
     requires parts { length parts.items
-        ≡ length (part_names (option_map string_bytes words.now.dealer) (parties_of (circuit_of circuit.now))) }
+        ≡ length (part_names (option_map string_bytes words.now.dealer)
+        (parties_of (circuit_of circuit.now))) }
     ensures { LocalReads (local_request words.entry.now) values.items (circuit_of circuit.now)
         (map (λ text. text.items) parts.items) (came_to result)
         ⊎ (came_to result ≡ memory) }

@@ -44,7 +44,8 @@ pub(crate) fn report_all(
 /// Adds the lines of outputs, in their order.
 fn push_outputs(text: &mut String, notation: Notation, outputs: &Outputs) -> Result<(), AllocError>
     requires { AreShort notation outputs.now }
-    ensures { OnOk result (string_bytes text.new ≡ string_bytes text.old ++ output_lines notation outputs.now) }
+    ensures { OnOk result
+        (string_bytes text.new ≡ string_bytes text.old ++ output_lines notation outputs.now) }
 {
     for at in 0..outputs.len() {
         push_output(text, notation, outputs, at)?;
