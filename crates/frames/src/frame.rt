@@ -1,7 +1,7 @@
 ghost use Rattle.std.specs.Prelude.{◌≡◌, ◌≤◌, ◌∷◌, ◌++◌, length, IfOk, OnOk};
 ghost use Rattle.std.specs.List.{All};
 ghost use Rattle.sha2.specs.Sha256.{sha256};
-ghost use Rattle.frames.specs.Bytes.{u32_bytes, u64_bytes, body, canonical, joined, IsSendable};
+ghost use Rattle.frames.specs.Bytes.{u32_bytes, u64_bytes, body, canonical, joined, IsPayload, IsSendable};
 
 use byteorder::{BigEndian, ByteOrder};
 use mot_base::{NoMemory, Party, Payload};
@@ -20,6 +20,9 @@ pub const MAX_LENGTH: usize = 65_542;
 
 /// The length of End.
 pub const END_LENGTH: usize = 1;
+
+/// How many bytes the frame of a message has before its payload.
+pub const MESSAGE_HEAD: usize = 10;
 
 /// What a party says of itself and of the run before its messages.
 #[derive(Clone, Copy, Debug, PartialEq, Eq)]
@@ -73,6 +76,18 @@ pub fn write_frame(alloc: Global, f: &Frame) -> Result<Vec<u8>, NoMemory>
     put_u32(&mut bytes, length as u32)?;
     put_body(&mut bytes, f)?;
     Ok(bytes)
+}
+
+/// What stands before the payload in the canonical bytes of a message. A payload has 1 to 65,536 bytes.
+#[tactic(auto, using(crate::proofs::Canonical::message_length), unfolding(crate::specs::Bytes::canonical, crate::specs::Bytes::body))]
+pub fn message_head(gate: u32, round: u8, payload: &Payload) -> [u8; MESSAGE_HEAD]
+    requires { IsPayload payload.now }
+    ensures { result ++ payload.now ≡ canonical (Frame.Message gate round payload.now) }
+{
+    let length = 6 + payload.bytes().len();
+    let [a, b, c, d] = four_bytes(length as u32);
+    let [e, f, g, h] = four_bytes(gate);
+    [a, b, c, d, 2, e, f, g, h, round]
 }
 
 /// SHA-256 of the canonical bytes of the frames, one after another.
@@ -153,9 +168,17 @@ fn put_message(out: &mut Vec<u8>, gate: u32, round: u8, payload: &[u8]) -> Resul
 fn put_u32(out: &mut Vec<u8>, n: u32) -> Result<(), AllocError>
     ensures { OnOk result (out.new.items ≡ out.old.items ++ u32_bytes n) }
 {
+    out.extend_from_slice(&four_bytes(n))
+}
+
+/// A number in four bytes.
+#[tactic(auto, unfolding(crate::specs::Bytes::u32_bytes))]
+fn four_bytes(n: u32) -> [u8; 4]
+    ensures { result ≡ u32_bytes n }
+{
     let mut bytes = [0; 4];
     BigEndian::write_u32(&mut bytes, n);
-    out.extend_from_slice(&bytes)
+    bytes
 }
 
 #[tactic(auto, unfolding(crate::specs::Bytes::u64_bytes))]

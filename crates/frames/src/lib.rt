@@ -8,8 +8,8 @@ mod laws;
 mod reader;
 
 pub use frame::{
-    END_LENGTH, Frame, FrameFault, HELLO_LENGTH, Hello, LEAST_MESSAGE_LENGTH, MAX_LENGTH, digest,
-    write_frame,
+    END_LENGTH, Frame, FrameFault, HELLO_LENGTH, Hello, LEAST_MESSAGE_LENGTH, MAX_LENGTH,
+    MESSAGE_HEAD, digest, message_head, write_frame,
 };
 pub use laws::one_reading;
 pub use reader::{Fed, Reader};
