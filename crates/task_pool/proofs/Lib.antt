@@ -1,2 +1,3 @@
 pub mod Moves
+mod Shelving
 pub mod Turning

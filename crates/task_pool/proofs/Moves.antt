@@ -1,6 +1,6 @@
 -- Values that are taken out of slots and put into them.
 use Rattle.std.proofs.Common.{◌≡◌, ◌≢◌, ℕ, zero, suc, ◌+◌, ◌<◌, ◌≤◌, List, [], ◌∷◌, ◌++◌, length, get_or, set, take, drop, map, Option, Some, None, refl, sym, ap, ap₂, ◌∙◌, subst, arith}
-use Rattle.std.proofs.lemmas.List.{append-nil, nil_from_length, append_assoc, length-set, length-take-le, get_or_read, get_or-set_same, get_or-set_other, get_or-take, map-append, take_more, take_all, length_push, length-append}
+use Rattle.std.proofs.lemmas.List.{append-nil, nil_from_length, append_assoc, length-set, length-take-le, get_or-set_same, get_or-set_other, get_or-take, map-append, take_more, take_all, length_push, length-append}
 use Rattle.task_pool.specs.Meanings.{AreMeanings}
 use Rattle.task_pool.specs.Held.{HasMeaning, in_slots, AreDistinct, AreBelow, OthersStay}
 
@@ -123,20 +123,19 @@ pub puts-others : {E : Type 0} (es : List ℕ) (at : ℕ) (old new : List (Optio
 puts-others es at old new values within p k apart = p.others k (λ i less. apart i (omega (arith, less, within)))
 
 -- one turn of the loop that takes, in the words of its calls
-pub takes-next : {E : Type 0} (es : List ℕ) (at : ℕ) (old mid : List (Option E)) (values pushed : List E) (v : E) (slot taken left : Option E) → AreDistinct es → AreBelow (length old) es → at < length es → Takes es at old mid values → slot ≡ get_or mid (get_or es at 0) slot → taken ≡ slot → taken ≡ Some v → left ≡ None → pushed ≡ values ++ v ∷ [] → Takes es (at + 1) old (set mid (get_or es at 0) left) pushed
-takes-next {E = E} es at old mid values pushed v slot taken left distinct below within t read taken_is some none push =
-    let inside : get_or es at 0 < length mid = omega (arith, t.many, below at within) in
-    let here : get_or mid (get_or es at 0) None ≡ Some v = sym (get_or_read mid (get_or es at 0) slot inside read None) ∙ sym taken_is ∙ some in
-    let step = takes-more es at old mid values v distinct within t here in
-    let one = subst (λ (o : Option E). Takes es (at + 1) old (set mid (get_or es at 0) o) (values ++ v ∷ [])) (sym none) step in
-    subst (λ (vs : List E). Takes es (at + 1) old (set mid (get_or es at 0) left) vs) (sym push) one
+pub takes-next : {E : Type 0} (es : List ℕ) (at : ℕ) (old mid new : List (Option E)) (values pushed : List E) (v : E) (taken : Option E) → AreDistinct es → at < length es → Takes es at old mid values → taken ≡ get_or mid (get_or es at 0) None → taken ≡ Some v → new ≡ set mid (get_or es at 0) None → pushed ≡ values ++ v ∷ [] → Takes es (at + 1) old new pushed
+takes-next {E = E} es at old mid new values pushed v taken distinct within t taken_is some after push =
+    let step = takes-more es at old mid values v distinct within t (sym taken_is ∙ some) in
+    let one = subst (λ (slots : List (Option E)). Takes es (at + 1) old slots (values ++ v ∷ [])) (sym after) step in
+    subst (λ (vs : List E). Takes es (at + 1) old new vs) (sym push) one
 
 -- one turn of the loop that puts
-pub puts-next : {E : Type 0} (es : List ℕ) (at : ℕ) (old mid : List (Option E)) (values yielded rest left : List E) (v : E) → AreDistinct es → AreBelow (length old) es → length values ≡ length es → Puts es at old mid yielded → yielded ++ rest ≡ values → rest ≡ v ∷ left → Puts es (at + 1) old (set mid (get_or es at 0) (Some v)) (yielded ++ v ∷ []) × (yielded ++ v ∷ [] ++ left ≡ values)
-puts-next {E = E} es at old mid values yielded rest left v distinct below many p whole next =
+pub puts-next : {E : Type 0} (es : List ℕ) (at : ℕ) (old mid new : List (Option E)) (values yielded rest left : List E) (v : E) → AreDistinct es → AreBelow (length old) es → length values ≡ length es → Puts es at old mid yielded → yielded ++ rest ≡ values → rest ≡ v ∷ left → new ≡ set mid (get_or es at 0) (Some v) → Puts es (at + 1) old new (yielded ++ v ∷ []) × (yielded ++ v ∷ [] ++ left ≡ values)
+puts-next {E = E} es at old mid new values yielded rest left v distinct below many p whole next after =
     let split : yielded ++ (v ∷ left) ≡ values = ap (λ (xs : List E). yielded ++ xs) (sym next) ∙ whole in
     let long = ap length (sym split) ∙ length-append yielded (v ∷ left) in
-    (puts-more es at old mid yielded v distinct below (omega (arith, long, many, p.count)) p, append_assoc yielded (v ∷ []) left ∙ split)
+    let step = puts-more es at old mid yielded v distinct below (omega (arith, long, many, p.count)) p in
+    (subst (λ (slots : List (Option E)). Puts es (at + 1) old slots (yielded ++ v ∷ [])) (sym after) step, append_assoc yielded (v ∷ []) left ∙ split)
 
 -- where nothing is left, all was put
 pub puts-end : {E : Type 0} (es : List ℕ) (at : ℕ) (values yielded rest : List E) → length values ≡ length es → length yielded ≡ at → yielded ++ rest ≡ values → length rest ≡ 0 → at ≡ length es

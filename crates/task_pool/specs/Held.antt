@@ -43,7 +43,9 @@ pub record Held (W : Type 0) : Type 0 where
   pub wanting : Bool
 
 -- what holds of it
-pub record IsHolding {E : Type 0} (own : Graph) (means : ℕ → E → Type 0) (g : Graph) (turned : Flags) (slots : List (Option E)) (wanting : Bool) : Type 0 where
+pub record IsHolding {E : Type 0}
+    (own : Graph) (means : ℕ → E → Type 0) (g : Graph) (turned : Flags)
+    (slots : List (Option E)) (wanting : Bool) : Type 0 where
   pub same : own ≡ g
   pub sound : IsSound g
   pub inside : HasNoOutside g

@@ -3,6 +3,7 @@
 #![tactic(auto)]
 
 mod run;
+mod shelf;
 mod slots;
 mod work;
 

@@ -1,9 +1,10 @@
-ghost use Rattle.std.specs.Prelude.{◌≡◌, ◌≢◌, ℕ, ◌<◌, ◌^◌, Some, None, false, map, length, get_or, replicate, IfOk, OnOk};
+ghost use Rattle.std.specs.Prelude.{◌≡◌, [], ◌≢◌, ℕ, ◌<◌, ◌^◌, Some, None, false, map, length, get_or, replicate, IfOk, OnOk};
 ghost use Rattle.turn_core.specs.Graph.{Graph, source, target};
 ghost use Rattle.turn_core.specs.Core.{IsIn, size_of};
 ghost use Rattle.task_pool.specs.Meanings.{AreMeanings, HasNoOutside, ends_of};
 ghost use Rattle.task_pool.specs.Held.{AreBelow, AreDistinct, AreFull, HasMeaning, OthersStay, in_slots};
 
+use crate::shelf::Shelf;
 use crate::work::Work;
 use mot_base::NoMemory;
 use std::alloc::Global;
@@ -17,8 +18,10 @@ pub struct Slots<'w, W: Work> {
     alloc: Global,
     work: &'w W,
     dag: &'w Dag,
-    slots: Vec<Option<W::Edge>>,
+    slots: Shelf<W::Edge>,
     turned: Vec<bool>,
+    /// room for the values on the edges that end at an item
+    inputs: Vec<W::Edge>,
     wanting: bool,
 }
 
@@ -27,10 +30,15 @@ impl<'w, W: Work> Model for Slots<'w, W> {
 
     ghost Value = { Held W };
 
-    ghost view = { λ s. record { work = s.work.now; graph = s.dag.now; turned = s.turned.items; wanting = s.wanting } };
+    ghost view = { λ s. record {
+      work = s.work.now;
+      graph = s.dag.now;
+      turned = s.turned.items;
+      wanting = s.wanting;
+    } };
 
     ghost invariant = { λ s.
-        IsHolding (W.graph s.work.now) (W.means s.work.now) s.dag.now s.turned.items s.slots.items s.wanting };
+        IsHolding (W.graph s.work.now) (W.means s.work.now) s.dag.now s.turned.items s.slots s.wanting };
 }
 
 impl<'w, W: Work> Slots<'w, W> {
@@ -42,7 +50,7 @@ impl<'w, W: Work> Slots<'w, W> {
         ensures graph { IfOk result (λ s. s.graph ≡ dag.now) }
         ensures turned { IfOk result (λ s. s.turned ≡ replicate dag.now.items false) }
     {
-        let slots = empty_slots(alloc, dag.edges().len())?;
+        let slots = Shelf::new(alloc, dag.edges().len())?;
         let turned = Vec::from_elem(alloc, false, dag.items() as usize)?;
         Ok(Slots {
             alloc,
@@ -50,6 +58,7 @@ impl<'w, W: Work> Slots<'w, W> {
             dag,
             slots,
             turned,
+            inputs: Vec::new(alloc),
             wanting: false,
         })
     }
@@ -70,7 +79,8 @@ impl<'w, W: Work> Slots<'w, W> {
             ..
         } = self;
         let edges = edges_at_end(alloc, dag)?;
-        let ends = take_all(alloc, &mut slots, &edges)?;
+        let mut ends = Vec::with_capacity(alloc, edges.len())?;
+        take_all(&mut slots, &edges, &mut ends)?;
         Ok(ends)
     }
 }
@@ -91,7 +101,14 @@ impl<'w, W: Work> DrainWork for Slots<'w, W> {
         if self.wanting {
             return;
         }
-        let ran = run_item(self.alloc, self.work, self.dag, &mut self.slots, item);
+        let ran = run_item(
+            self.alloc,
+            self.work,
+            self.dag,
+            &mut self.slots,
+            &mut self.inputs,
+            item,
+        );
         if ran.is_err() {
             self.wanting = true;
         }
@@ -103,64 +120,67 @@ fn run_item<W: Work>(
     alloc: Global,
     work: &W,
     dag: &Dag,
-    slots: &mut Vec<Option<W::Edge>>,
+    slots: &mut Shelf<W::Edge>,
+    inputs: &mut Vec<W::Edge>,
     item: u32,
 ) -> Result<(), NoMemory>
     requires graph { W.graph work.now ≡ dag.now }
     requires is_item { item < dag.now.items }
-    requires as_many { length slots.old.items ≡ length dag.now.edges }
+    requires as_many { length slots.old ≡ length dag.now.edges }
     requires inputs { (e : ℕ) → e < length dag.now.edges → target dag.now e ≡ item →
-        HasMeaning (W.means work.now) e (get_or slots.old.items e None) }
+        HasMeaning (W.means work.now) e (get_or slots.old e None) }
     ensures outputs { OnOk result ((e : ℕ) → e < length dag.now.edges → source dag.now e ≡ item →
-        HasMeaning (W.means work.now) e (get_or slots.new.items e None)) }
+        HasMeaning (W.means work.now) e (get_or slots.new e None)) }
     ensures others { OnOk result ((e : ℕ) → e < length dag.now.edges →
         source dag.now e ≢ item → target dag.now e ≢ item →
-        get_or slots.new.items e None ≡ get_or slots.old.items e None) }
-    ensures as_many { length slots.new.items ≡ length slots.old.items }
+        get_or slots.new e None ≡ get_or slots.old e None) }
+    ensures as_many { length slots.new ≡ length slots.old }
 {
-    let mut inputs = take_all(alloc, slots, dag.incoming(item))?;
-    let outputs = work.run(alloc, item, &mut inputs)?;
-    put_all(slots, dag.outgoing(item), outputs);
+    inputs.clear();
+    take_all(slots, dag.incoming(item), inputs)?;
+    let outputs = work.run(alloc, item, inputs)?;
+    put_all(slots, dag.outgoing(item), outputs)?;
     Ok(())
 }
 
 /// Takes the values out of the slots of some edges, in the order of these edges.
 fn take_all<E: Drop>(
-    alloc: Global,
-    slots: &mut Vec<Option<E>>,
+    slots: &mut Shelf<E>,
     edges: &[u32],
-) -> Result<Vec<E>, NoMemory>
-    requires below { AreBelow (length slots.old.items) edges.now }
+    values: &mut Vec<E>,
+) -> Result<(), NoMemory>
+    requires below { AreBelow (length slots.old) edges.now }
     requires distinct { AreDistinct edges.now }
-    requires full { AreFull slots.old.items edges.now }
-    ensures taken { IfOk result (λ values. in_slots slots.old.items edges.now ≡ map Some values.items) }
-    ensures others { OthersStay edges.now slots.old.items slots.new.items }
-    ensures as_many { length slots.new.items ≡ length slots.old.items }
+    requires full { AreFull slots.old edges.now }
+    requires empty { values.old.items ≡ [] }
+    ensures taken { OnOk result (in_slots slots.old edges.now ≡ map Some values.new.items) }
+    ensures others { OthersStay edges.now slots.old slots.new }
+    ensures as_many { length slots.new ≡ length slots.old }
 {
-    let mut values = Vec::with_capacity(alloc, edges.len())?;
     for edge in edges {
-        let Some(value) = slots[*edge as usize].take() else {
+        let Some(value) = slots.take(*edge) else {
             unreachable!();
         };
         values.push(value)?;
     }
-    Ok(values)
+    Ok(())
 }
 
 /// Puts values into the slots of some edges, in the order of these edges.
-fn put_all<E: Drop>(slots: &mut Vec<Option<E>>, edges: &[u32], values: Vec<E>)
-    requires below { AreBelow (length slots.old.items) edges.now }
+fn put_all<E: Drop>(slots: &mut Shelf<E>, edges: &[u32], values: Vec<E>) -> Result<(), NoMemory>
+    requires below { AreBelow (length slots.old) edges.now }
     requires distinct { AreDistinct edges.now }
     requires as_many { length values.items ≡ length edges.now }
-    ensures put { in_slots slots.new.items edges.now ≡ map Some values.items }
-    ensures others { OthersStay edges.now slots.old.items slots.new.items }
-    ensures as_many { length slots.new.items ≡ length slots.old.items }
+    ensures put { OnOk result (in_slots slots.new edges.now ≡ map Some values.items) }
+    ensures others { OnOk result (OthersStay edges.now slots.old slots.new) }
+    ensures as_many { length slots.new ≡ length slots.old }
 {
     let mut at = 0;
     for value in values {
-        slots[edges[at] as usize] = Some(value);
+        slots.put(edges[at], value)?;
         at += 1;
     }
+    Ok(())
 }
 
 /// The numbers of the edges that end at no item, in rising order.
@@ -176,15 +196,4 @@ fn edges_at_end(alloc: Global, dag: &Dag) -> Result<Vec<u32>, NoMemory>
         edges.push(number as u32)?;
     }
     Ok(edges)
-}
-
-/// So many empty slots.
-fn empty_slots<E: Drop>(alloc: Global, count: usize) -> Result<Vec<Option<E>>, NoMemory>
-    ensures { IfOk result (λ slots. length slots.items ≡ count) }
-{
-    let mut slots = Vec::with_capacity(alloc, count)?;
-    for _at in 0..count {
-        slots.push(None)?;
-    }
-    Ok(slots)
 }

@@ -4,9 +4,10 @@ use Rattle.task_pool.proofs.slots.put_all.Goals as goal
 
 pub loop-value-preserved : goal.loop-value-preserved
 loop-value-preserved g c =
-    puts-next c.args.edges.now c.loop-value.at c.args.slots.now.items c.loop-value.slots.items c.args.values.items
+    puts-next c.args.edges.now c.loop-value.at c.args.slots.now c.loop-value.slots c.put.new.self c.args.values.items
     c.loop-value.yielded c.loop-value.value-iterator.rest.items c.next.new.self.rest.items c.in-Some.value
     c.requires.distinct c.requires.below c.requires.as_many c.loop-value.invariant.0 c.loop-value.invariant.1 c.in-Some.ensures.steps.0
+    c.in_ok-put.ensures.put
 
 pub returns-clause-put : goal.returns-clause-put
 returns-clause-put g c =
