@@ -16,7 +16,7 @@ use Rattle.local_engine.specs.declared.item.Load.{Load}
 use Rattle.local_engine.specs.declared.item.Load.TheVariants.{Wire, Kept, Message}
 use Rattle.local_engine.specs.declared.cargo.Cargo.{Cargo}
 use Rattle.local_engine.specs.declared.cargo.Cargo.TheVariants as cargo
-use Rattle.local_engine.specs.Meaning.{Sends, HasCargoAt, IsCargo, IsCargoAt}
+use Rattle.local_engine.specs.Meaning.{Sends, HasCargo, HasCargoAt, IsCargo, IsCargoAt}
 use Rattle.local_engine.proofs.Valid.{all_at}
 
 means_push : {E : Type 0} (means : ℕ → E → Type 0) (es : List ℕ) (vs : List E) (e : ℕ) (v : E) → AreMeanings means es vs → means e v → AreMeanings means (es ++ e ∷ []) (vs ++ v ∷ [])
@@ -61,3 +61,29 @@ pub all_alone : (given : StageOut) (v : Value) (loads : List Load) (edges : List
 all_alone given v loads [] value carried out all = tt
 all_alone given v loads (e ∷ es) value carried out all =
     (alone given v (slice_get loads e) value carried out all.0, all_alone given v loads es value carried out all.1)
+
+-- what holds of the last one and of those before it
+pub all_but_last : (P : ℕ → Type 0) (before : List ℕ) (last : ℕ) → AllByRecursion P (before ++ last ∷ []) → AllByRecursion P before × P last
+all_but_last P [] last all = (tt, all.0)
+all_but_last P (e ∷ before) last all = let rest = all_but_last P before last all.1 in ((all.0, rest.0), rest.1)
+
+pub all_of_last : (given : StageOut) (loads : List Load) (edges before : List ℕ) (last : ℕ) → edges ≡ before ++ last ∷ [] → AllByRecursion (λ e. HasCargoAt given (slice_get loads e)) edges → AllByRecursion (λ e. HasCargoAt given (slice_get loads e)) before × HasCargoAt given (slice_get loads last)
+all_of_last given loads edges before last are all =
+    all_but_last (λ e. HasCargoAt given (slice_get loads e)) before last (subst (λ (es : List ℕ). AllByRecursion (λ e. HasCargoAt given (slice_get loads e)) es) are all)
+
+pub last_inside : (given : StageOut) (loads : List Load) (edges before : List ℕ) (last : ℕ) → edges ≡ before ++ last ∷ [] → AllByRecursion (λ e. HasCargoAt given (slice_get loads e)) edges → last < length loads
+last_inside given loads edges before last are all = in_loads given loads last (all_of_last given loads edges before last are all).1
+
+pub last_has : (given : StageOut) (loads : List Load) (edges before : List ℕ) (last : ℕ) (d : Load) → edges ≡ before ++ last ∷ [] → AllByRecursion (λ e. HasCargoAt given (slice_get loads e)) edges → HasCargo given (get_or loads last d)
+last_has given loads edges before last d are all =
+    subst (λ o. HasCargoAt given o) (there_is loads last d (last_inside given loads edges before last are all)) (all_of_last given loads edges before last are all).1
+
+-- the last edge behind the others
+pub outputs_with_last : (given : StageOut) (loads : List Load) (edges before : List ℕ) (last : ℕ) (old new : List Cargo) (d : Load) (c : Cargo) → edges ≡ before ++ last ∷ [] → AllByRecursion (λ e. HasCargoAt given (slice_get loads e)) edges → AreMeanings (λ e v. IsCargoAt given (slice_get loads e) v) before old → IsCargo given (get_or loads last d) c → new ≡ old ++ c ∷ [] → AreMeanings (λ e v. IsCargoAt given (slice_get loads e) v) edges new
+outputs_with_last given loads edges before last old new d c are all means is more =
+    let meaning : ℕ → Cargo → Type 0 = λ e v. IsCargoAt given (slice_get loads e) v in
+    let there = there_is loads last d (last_inside given loads edges before last are all) in
+    let here : meaning last c = subst (λ o. IsCargoAt given o c) (sym there) is in
+    let one = means_push meaning before old last c means here in
+    let two = subst (λ (es : List ℕ). AreMeanings meaning es (old ++ c ∷ [])) (sym are) one in
+    subst (λ (vs : List Cargo). AreMeanings meaning edges vs) (sym more) two

@@ -2,7 +2,8 @@ pub mod Lists
 pub mod Numbers
 pub mod Valid
 pub mod Blocks
-pub mod Forward
+pub mod Few
+mod Forward
 pub mod Sorting
 pub mod Giving
 pub mod Ranges

@@ -1,7 +1,8 @@
 -- What flows into an item is sorted by kind.
-use Rattle.std.proofs.Common.{◌≡◌, ℕ, List, [], ◌∷◌, ◌++◌, Option, Some, None, refl, sym, ap, ◌∙◌, subst}
+use Rattle.std.proofs.Common.{◌≡◌, ℕ, ◌+◌, ◌<◌, ◌≤◌, length, get_or, set, take, drop, arith, List, [], ◌∷◌, ◌++◌, Option, Some, None, refl, sym, ap, ◌∙◌, subst}
 use Rattle.std.specs.List.{flat_map}
-use Rattle.std.proofs.lemmas.List.{append-nil, append_assoc, flat_map_more}
+use Rattle.std.proofs.lemmas.List.{append-nil, append_assoc, flat_map_more, length-set, length-append, take-append-drop, get_or-set_other, take_more}
+use Rattle.std.proofs.lemmas.Grind.{flat_map-append}
 use Rattle.gate_tasks.specs.declared.value.Value.{Value as ValueInMemory}
 use Rattle.local_engine.specs.declared.cargo.Cargo.{Cargo}
 use Rattle.local_engine.specs.declared.cargo.Cargo.TheVariants.{Value, Kept, Message}
@@ -67,3 +68,38 @@ sorted_message wires carried payloads new yielded x bytes s is more =
       carried_is = kept_next carried carried yielded (Message bytes) s.carried_is refl;
       payloads_are = one_more payloads_of payloads new yielded (Message bytes) s.payloads_are more;
     })
+
+-- what is left from a place on is what was there
+pub record AreLeft (at : ℕ) (old new : List Cargo) : Type 0 where
+  pub as_many : length new ≡ length old
+  pub same : (j : ℕ) (d : Cargo) → at ≤ j → j < length old → get_or new j d ≡ get_or old j d
+
+pub all_left : (cs : List Cargo) → AreLeft 0 cs cs
+all_left cs = record { as_many = refl; same = λ j d more within. refl }
+
+pub left_next : (at : ℕ) (old mid : List Cargo) (c : Cargo) → AreLeft at old mid → AreLeft (at + 1) old (set mid at c)
+left_next at old mid c left = record {
+  as_many = length-set mid at c ∙ left.as_many;
+  same = λ j d more within.
+      get_or-set_other mid at j c d (λ same. absurd (omega (arith, same, more)))
+      ∙ left.same j d (omega (arith, more)) within;
+}
+
+-- the next one is what was there
+pub next_left : (at : ℕ) (old mid : List Cargo) (c d : Cargo) → AreLeft at old mid → at < length old → c ≡ get_or mid at c → take (at + 1) old ≡ take at old ++ c ∷ []
+next_left at old mid c d left within read =
+    take_more old at c within ∙ ap (λ (x : Cargo). take at old ++ x ∷ []) (sym (read ∙ left.same at c (omega arith) within))
+
+-- where one more is a value, there were fewer before it than in all
+pub few_so_far : (old : List Cargo) (at n : ℕ) (x : Cargo) (v : ValueInMemory) → take (at + 1) old ≡ take at old ++ x ∷ [] → x ≡ Value v → length (flat_map values_of old) ≤ n → length (flat_map values_of (take at old)) < n
+few_so_far old at n x v next is few =
+    let count : List Cargo → ℕ = λ cs. length (flat_map values_of cs) in
+    let grown : count (take (at + 1) old) ≡ count (take at old) + 1 =
+    ap count next ∙ ap length (sym (flat_map_more values_of [] (take at old) x))
+    ∙ length-append (flat_map values_of (take at old)) (values_of x)
+    ∙ ap (λ (y : Cargo). count (take at old) + length (values_of y)) is in
+    let split : count old ≡ count (take (at + 1) old) + count (drop (at + 1) old) =
+    ap count (sym (take-append-drop (at + 1) old))
+    ∙ ap length (flat_map-append values_of (take (at + 1) old) (drop (at + 1) old))
+    ∙ length-append (flat_map values_of (take (at + 1) old)) (flat_map values_of (drop (at + 1) old)) in
+    omega (arith, grown, split, few)

@@ -18,7 +18,8 @@ pub record ServeParty (plan : Gates) (p : ℕ) (own : Own) (part : Part) : Type 
   pub parties : part.parties ≡ plan.parties
   pub session : own.session < session_count
   pub inputs : (g : ℕ) (gate : Gate) → slice_get plan.gates g ≡ Some gate → HasInput gate p own.inputs
-  pub records : (kind : Kind) → count_of (sum_of_needs own.bases (all_needs plan)) kind ≤ count_of (counts_of part) kind
+  pub records : (kind : Kind) →
+      count_of (sum_of_needs own.bases (all_needs plan)) kind ≤ count_of (counts_of part) kind
 
 -- there are own data and a part of a deal for each party of the plan, in the order of the parties
 pub record IsJob (plan : Gates) (owns : List Own) (parts : List Part) : Type 0 where

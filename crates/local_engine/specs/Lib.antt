@@ -4,6 +4,7 @@ pub mod Cargo
 pub mod Meaning
 pub mod Job
 pub mod Running
+pub mod Operands
 pub mod Report
 pub mod Told
 pub mod Inputs

@@ -71,7 +71,8 @@ loads_before plan items zero = []
 loads_before plan items (suc k) = loads_before plan items k ++ loads_at plan (slice_get items k)
 
 abbrev pub all_loads : Gates → List Load
-all_loads plan = loads_before plan (all_items plan) (length (all_items plan)) ++ reports_loads plan plan.parties
+all_loads plan =
+    loads_before plan (all_items plan) (length (all_items plan)) ++ reports_loads plan plan.parties
 
 -- the item that gives what an edge carries: a value comes from the party's last stage of the gate
 abbrev pub giver : Gates → Load → Item

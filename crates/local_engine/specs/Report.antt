@@ -40,20 +40,24 @@ told_to plan p = told_gates plan p (length plan.gates)
 
 -- the report of a party of a joint run: what it is told, in the order of the gates, each in its gate's width, and the digest
 -- of its transcript
-pub record IsReport (plan : Gates) (owns : List Own) (table : Payloads) (p : ℕ) (report : PartyReport) : Type 0 where
+pub record IsReport
+    (plan : Gates) (owns : List Own) (table : Payloads) (p : ℕ) (report : PartyReport) : Type 0 where
   pub told : map (λ bits. party.Told (Some bits.word)) report.told
       ≡ map (party_value plan p (own_at owns p) (column table p)) (told_to plan p)
   pub widths : map (λ bits. bits.width) report.told ≡ map (width_at plan.gates) (told_to plan p)
   pub digest : report.digest ≡ sha256 (joined (transcript table plan p))
 
 -- the reports of all parties, in their order
-pub record AreReports (plan : Gates) (owns : List Own) (table : Payloads) (reports : List PartyReport) : Type 0 where
+pub record AreReports
+    (plan : Gates) (owns : List Own) (table : Payloads) (reports : List PartyReport) : Type 0 where
   pub count : length reports ≡ plan.parties
-  pub each : (p : ℕ) (report : PartyReport) → slice_get reports p ≡ Some report → IsReport plan owns table p report
+  pub each : (p : ℕ) (report : PartyReport) →
+      slice_get reports p ≡ Some report → IsReport plan owns table p report
 
 -- the numbers that a party is told by the plain evaluation
 abbrev pub plain_told : Gates → List ℕ → ℕ → List ℕ
-plain_told plan inputs p = map (slice_index (plain_before plan.gates inputs (length plan.gates))) (told_to plan p)
+plain_told plan inputs p =
+    map (slice_index (plain_before plan.gates inputs (length plan.gates))) (told_to plan p)
 
 -- ---- of what came to the end
 

@@ -18,7 +18,9 @@ pub record Running : Type 0 where
   pub graph : Graph
 
 -- items, loads and graph are those of the plan, and there is what the run is asked on
-pub record IsRunning (plan : Gates) (owns : List OwnInMemory) (parts : List Part) (items : List Item) (loads : List Load) (graph : Graph) : Type 0 where
+pub record IsRunning
+    (plan : Gates) (owns : List OwnInMemory) (parts : List Part)
+    (items : List Item) (loads : List Load) (graph : Graph) : Type 0 where
   pub plan_is : IsPlan plan
   pub job : IsJob plan owns parts
   pub items_are : items ≡ all_items plan

@@ -46,12 +46,16 @@ abbrev pub MixedOutputsAreTold : Type 0
 MixedOutputsAreTold =
     (c : mixed.Circuit) (plan : Gates) (inputs values : List ℕ) (p : ℕ) (told : List Bits) →
     KeepsValues c plan inputs values → AreToldInPlain plan inputs p told →
-    AreCut (asked (Some (record { 0 = p })) (mixed_table.outputs_of c)) (joined_bits told) (outputs_to p (told_of c values))
+    AreCut (asked (Some (record { 0 = p })) (mixed_table.outputs_of c)) (joined_bits told)
+    (outputs_to p (told_of c values))
 
 -- and of one in Bristol Fashion
 abbrev pub BristolOutputsAreTold : Type 0
 BristolOutputsAreTold =
-    (c : bristol.Circuit) (plan : Gates) (inputs : List (List Bool)) (wires : List Bool) (outputs : List Told) (p : ℕ) (told : List Bits) →
+    (c : bristol.Circuit) (plan : Gates) (inputs : List (List Bool)) (wires : List Bool) (outputs : List Told)
+    (p : ℕ) (told : List Bits) →
     KeepsBristol c plan → bristol_table.HaveInputWidths c inputs → AreWireBits c inputs wires →
-    AreCut (bristol_table.outputs_of c) (output_bits c wires) outputs → AreToldInPlain plan (map number inputs) p told →
-    AreCut (asked (Some (record { 0 = p })) (bristol_table.outputs_of c)) (joined_bits told) (outputs_to p outputs)
+    AreCut (bristol_table.outputs_of c) (output_bits c wires) outputs →
+    AreToldInPlain plan (map number inputs) p told →
+    AreCut (asked (Some (record { 0 = p })) (bristol_table.outputs_of c)) (joined_bits told)
+    (outputs_to p outputs)

@@ -12,4 +12,5 @@ payloads_to plan p = sum_to (length plan.gates) (λ g. length (senders plan p g 
 -- a run of all parties has at most as many items as each party has gates and payloads that are sent to it, together
 abbrev pub TurnsAreFew : Type 0
 TurnsAreFew =
-    (plan : Gates) → length (all_items plan) ≤ sum_to plan.parties (λ p. length plan.gates + payloads_to plan p)
+    (plan : Gates) →
+    length (all_items plan) ≤ sum_to plan.parties (λ p. length plan.gates + payloads_to plan p)

@@ -10,6 +10,7 @@ mod items;
 mod job;
 mod laws;
 mod loads;
+mod operands;
 mod outputs;
 mod report;
 mod run;

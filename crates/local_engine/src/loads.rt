@@ -49,7 +49,8 @@ fn push_wires(plan: &Plan, gate: u32, party: Party, loads: &mut Vec<Load>) -> Re
 
 /// Adds a party's value of a gate at the end, if there is one.
 fn push_wire(gate: Option<u32>, party: Party, loads: &mut Vec<Load>) -> Result<(), NoMemory>
-    ensures { OnOk result (loads.new.items ≡ loads.old.items ++ map (λ x. Wire x party) (option_to_list gate)) }
+    ensures { OnOk result (loads.new.items
+        ≡ loads.old.items ++ map (λ x. Wire x party) (option_to_list gate)) }
 {
     let Some(gate) = gate else {
         return Ok(());

@@ -3,8 +3,9 @@
 ghost use Rattle.std.specs.Prelude.{◌≡◌, ℕ, List, [], true, Some, None, slice_get, replicate, IsSome, IfOk, IfSome};
 ghost use Rattle.std.specs.List.{AllByRecursion};
 ghost use Rattle.task_pool.specs.Meanings.{AreMeanings};
+ghost use Rattle.gate_tasks.specs.declared.outgoing.Out.{Out};
 ghost use Rattle.local_engine.specs.declared.cargo.Cargo.TheVariants as cargo;
-ghost use Rattle.local_engine.specs.Meaning.{Sends, HasCargo, IsCargo, HasCargoAt, IsCargoAt};
+ghost use Rattle.local_engine.specs.Meaning.{IsTo, Sends, HasCargo, IsCargo, HasCargoAt, IsCargoAt};
 
 use crate::cargo::Cargo;
 use crate::item::Load;
@@ -17,14 +18,14 @@ pub(crate) fn outputs(
     alloc: Global,
     loads: &[Load],
     edges: &[u32],
-    given: &StageOut,
+    given: StageOut,
 ) -> Result<Vec<Cargo>, NoMemory>
-    requires { AllByRecursion (λ e. HasCargoAt given.now (slice_get loads.now e)) edges.now }
+    requires { AllByRecursion (λ e. HasCargoAt given (slice_get loads.now e)) edges.now }
     ensures { IfOk result (λ outputs.
-        AreMeanings (λ e c. IsCargoAt given.now (slice_get loads.now e) c) edges.now outputs.items) }
+        AreMeanings (λ e c. IsCargoAt given (slice_get loads.now e) c) edges.now outputs.items) }
 {
     match &given.value {
-        Some(value) if gives_no_more(given) => {
+        Some(value) if gives_no_more(&given) => {
             let outputs = copies(alloc, value, edges.len())?;
             Ok(outputs)
         }
@@ -57,18 +58,59 @@ fn each_output(
     alloc: Global,
     loads: &[Load],
     edges: &[u32],
+    given: StageOut,
+) -> Result<Vec<Cargo>, NoMemory>
+    requires { AllByRecursion (λ e. HasCargoAt given (slice_get loads.now e)) edges.now }
+    ensures { IfOk result (λ outputs.
+        AreMeanings (λ e c. IsCargoAt given (slice_get loads.now e) c) edges.now outputs.items) }
+{
+    let Some((last, before)) = edges.split_last() else {
+        return Ok(Vec::new(alloc));
+    };
+    let mut outputs = copied(alloc, loads, before, &given, edges.len())?;
+    let output = last_cargo(alloc, loads[*last as usize], given)?;
+    outputs.push(output)?;
+    Ok(outputs)
+}
+
+/// The same where all are copied, with room for so many.
+fn copied(
+    alloc: Global,
+    loads: &[Load],
+    edges: &[u32],
     given: &StageOut,
+    room: usize,
 ) -> Result<Vec<Cargo>, NoMemory>
     requires { AllByRecursion (λ e. HasCargoAt given.now (slice_get loads.now e)) edges.now }
     ensures { IfOk result (λ outputs.
         AreMeanings (λ e c. IsCargoAt given.now (slice_get loads.now e) c) edges.now outputs.items) }
 {
-    let mut outputs = Vec::with_capacity(alloc, edges.len())?;
+    let mut outputs = Vec::with_capacity(alloc, room)?;
     for edge in edges {
         let output = cargo(alloc, loads[*edge as usize], given)?;
         outputs.push(output)?;
     }
     Ok(outputs)
+}
+
+/// What the last edge carries, of what a stage gave. A payload is not copied once more.
+fn last_cargo(alloc: Global, load: Load, given: StageOut) -> Result<Cargo, NoMemory>
+    requires { HasCargo given load }
+    ensures { IfOk result (λ c. IsCargo given load c) }
+{
+    match load {
+        Load::Message { to, .. } => Ok(last_message(given.out.into_vec(), to)),
+        _ => cargo(alloc, load, &given),
+    }
+}
+
+/// The payload of round 0 to a party, taken out of the messages.
+fn last_message(mut outs: Vec<Out>, to: Party) -> Cargo
+    requires { (payload : List ℕ) × Sends outs.items to payload }
+    ensures { (payload : List ℕ) × Sends outs.items to payload × (result ≡ cargo.Message payload) }
+{
+    let at = place_of(&outs, to);
+    Cargo::Message(outs.swap_remove(at).payload)
 }
 
 /// What an edge carries, of what a stage gave.
@@ -110,14 +152,23 @@ fn kept(alloc: Global, given: &StageOut) -> Result<Cargo, NoMemory>
 /// The payload of round 0 to a party.
 fn message(alloc: Global, outs: &[Out], to: Party) -> Result<Cargo, NoMemory>
     requires { (payload : List ℕ) × Sends outs.now to payload }
-    ensures { IfOk result (λ c. (payload : List ℕ) × Sends outs.now to payload × (c ≡ cargo.Message payload)) }
+    ensures { IfOk result (λ c.
+        (payload : List ℕ) × Sends outs.now to payload × (c ≡ cargo.Message payload)) }
 {
-    for out in outs {
+    let copy = outs[place_of(outs, to)].payload.copy(alloc)?;
+    Ok(Cargo::Message(copy))
+}
+
+/// Where the message of round 0 to a party stands.
+fn place_of(outs: &[Out], to: Party) -> usize
+    requires { (payload : List ℕ) × Sends outs.now to payload }
+    ensures { (out : Out) × IsTo outs.now to result out }
+{
+    for (at, out) in outs.iter().enumerate() {
         if out.to != to || out.round != 0 {
             continue;
         }
-        let copy = out.payload.copy(alloc)?;
-        return Ok(Cargo::Message(copy));
+        return at;
     }
     unreachable!()
 }

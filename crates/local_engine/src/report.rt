@@ -1,8 +1,8 @@
 //! The reports of the parties of a run.
 
-ghost use Rattle.std.specs.Prelude.{◌≡◌, ◌<◌, ◌≤◌, ◌+◌, List, length, IfOk};
+ghost use Rattle.std.specs.Prelude.{◌≡◌, ◌<◌, ◌≤◌, ◌+◌, ◌++◌, ℕ, List, length, IfOk};
 ghost use Rattle.std.specs.List.{All, flat_map};
-ghost use Rattle.std.specs.Option.{option_to_list};
+ghost use Rattle.sha2.specs.Hashers.{Holds256};
 ghost use Rattle.sha2.specs.Sha256.{sha256};
 ghost use Rattle.frames.specs.Bytes.{IsSendable, joined};
 ghost use Rattle.gate_plan.specs.Plan.{IsPlan};
@@ -15,7 +15,7 @@ ghost use Rattle.local_engine.specs.Report.{bits_told, frame_of, frames_of, AreR
 use crate::cargo::Cargo;
 use crate::item::Load;
 use crate::loads::{push_sent, push_told};
-use frames::{Frame, write_frame};
+use frames::message_head;
 use gate_plan::Plan;
 use gate_tasks::Value;
 use mot_base::{NoMemory, Party};
@@ -28,7 +28,7 @@ use std::alloc::Global;
 pub struct PartyReport {
     /// Each in the width of its gate.
     pub told: BitsList,
-    /// SHA-256 of the frames of the party's messages, sorted by gate, round and receiver.
+    /// SHA-256 of the frames of the party's messages, sorted by gate and then by receiver. A gate has one round at most.
     pub digest: [u8; 32],
 }
 
@@ -73,7 +73,7 @@ fn report(
     ensures digest { IfOk result (λ report. report.digest ≡ sha256 (joined (frames_of loads.now sent.now))) }
 {
     let told = told_bits(alloc, told)?;
-    let digest = digest_of(alloc, loads, sent)?;
+    let digest = digest_of(loads, sent);
     Ok(PartyReport { told, digest })
 }
 
@@ -92,44 +92,31 @@ fn told_bits(alloc: Global, told: &[Cargo]) -> Result<BitsList, NoMemory>
 }
 
 /// SHA-256 of the frames of payloads, one after another.
-fn digest_of(alloc: Global, loads: &[Load], sent: &[Cargo]) -> Result<[u8; 32], NoMemory>
+fn digest_of(loads: &[Load], sent: &[Cargo]) -> [u8; 32]
     requires count { length sent.now ≡ length loads.now }
     requires sendable { All IsSendable (frames_of loads.now sent.now) }
-    ensures { IfOk result (λ digest. digest ≡ sha256 (joined (frames_of loads.now sent.now))) }
+    ensures { result ≡ sha256 (joined (frames_of loads.now sent.now)) }
 {
     let mut hasher = Sha256::new();
     for (at, load) in loads.iter().enumerate() {
-        let bytes = frame_bytes(alloc, *load, &sent[at])?;
-        hasher.update(bytes.as_slice());
+        add_frame(&mut hasher, *load, &sent[at]);
     }
-    Ok(hasher.finalize())
+    hasher.finalize()
 }
 
-/// The bytes of the frame of a payload, and none where it is no payload.
-fn frame_bytes(alloc: Global, load: Load, cargo: &Cargo) -> Result<Vec<u8>, NoMemory>
+/// Adds the bytes of the frame of a payload, and none where it is no payload.
+fn add_frame(hasher: &mut Sha256, load: Load, cargo: &Cargo)
     requires { All IsSendable (frame_of load cargo.now) }
-    ensures { IfOk result (λ bytes. bytes.items ≡ joined (frame_of load cargo.now)) }
-{
-    match frame(alloc, load, cargo)? {
-        Some(frame) => write_frame(alloc, &frame),
-        None => Ok(Vec::new(alloc)),
-    }
-}
-
-/// The frame of a payload, where it is one.
-fn frame(alloc: Global, load: Load, cargo: &Cargo) -> Result<Option<Frame>, NoMemory>
-    ensures { IfOk result (λ frame. option_to_list frame ≡ frame_of load cargo.now) }
+    ensures { (bytes : List ℕ) → Holds256 hasher.old bytes →
+        Holds256 hasher.new (bytes ++ joined (frame_of load cargo.now)) }
 {
     let Load::Message { gate, .. } = load else {
-        return Ok(None);
+        return;
     };
     let Cargo::Message(payload) = cargo else {
-        return Ok(None);
+        return;
     };
-    let payload = payload.copy(alloc)?;
-    Ok(Some(Frame::Message {
-        gate,
-        round: 0,
-        payload,
-    }))
+    let head = message_head(gate, 0, payload);
+    hasher.update(&head);
+    hasher.update(payload.bytes());
 }

@@ -27,7 +27,6 @@ use gate_tasks::{StageEnv, StageOut, run_stage};
 use mot_base::NoMemory;
 use std::alloc::Global;
 use std::marker::Model;
-use std::mem;
 use task_pool::Work;
 
 /// The stages of all parties of a run.
@@ -69,10 +68,9 @@ impl<'r> Work for LocalWork<'r> {
         inputs: &mut Vec<Cargo>,
     ) -> Result<Vec<Cargo>, NoMemory> {
         let place = self.graph.items[item as usize];
-        let inputs = mem::replace(inputs, Vec::new(alloc));
         let given = run_item(alloc, self.job, self.parts, place, inputs)?;
         let edges = self.graph.dag.outgoing(item);
-        let outputs = outputs(alloc, &self.graph.loads, edges, &given)?;
+        let outputs = outputs(alloc, &self.graph.loads, edges, given)?;
         Ok(outputs)
     }
 }
@@ -83,13 +81,13 @@ fn run_item(
     job: &LocalJob,
     parts: &[DealerPart],
     item: Item,
-    inputs: Vec<Cargo>,
+    inputs: &mut Vec<Cargo>,
 ) -> Result<StageOut, NoMemory>
     requires plan { IsPlan job.now.plan }
     requires job { IsJob job.now.plan job.now.owns.items parts.now }
     requires item { IsItem job.now.plan item }
     requires inputs { AreMeant job.now.plan (owns_with job.now.owns.items parts.now)
-        (loads_to job.now.plan item) inputs.items }
+        (loads_to job.now.plan item) inputs.old.items }
     ensures { IfOk result (λ given.
         HasRun job.now.plan (owns_with job.now.owns.items parts.now) item given) }
 {
@@ -109,17 +107,17 @@ fn run_place(
     alloc: Global,
     env: &StageEnv,
     stage: u8,
-    inputs: Vec<Cargo>,
+    inputs: &mut Vec<Cargo>,
 ) -> Result<StageOut, NoMemory>
     requires serves { Serves env.now.plan.now env.now.own.now env.now.part.now env.now.gate }
     requires stage { stage < stages env.now.plan.now env.now.own.now.me.0 env.now.gate }
-    requires wires { AreOperands env.now.plan.now env.now.gate (flat_map values_of inputs.items) }
+    requires wires { AreOperands env.now.plan.now env.now.gate (flat_map values_of inputs.old.items) }
     requires payloads { let me = env.now.own.now.me.0 in
         AreAwaited env.now.plan.now me env.now.gate (awaits env.now.plan.now me env.now.gate stage)
-        (flat_map payloads_of inputs.items) }
+        (flat_map payloads_of inputs.old.items) }
     ensures gives { IfOk result (λ given. (before : List equations.Value) (got : Rounds) →
         IsStage (hand_in env.now before) got stage
-        (flat_map values_of inputs.items) (kept_after None inputs.items) (flat_map payloads_of inputs.items) →
+        (flat_map values_of inputs.old.items) (kept_after None inputs.old.items) (flat_map payloads_of inputs.old.items) →
         Gives (hand_in env.now before) got stage given) }
     ensures typed { IfOk result (λ given. IfSome given.value (λ value. (gate : Gate) →
         slice_get env.now.plan.now.gates env.now.gate ≡ Some gate → IsOf gate value)) }
@@ -129,5 +127,5 @@ fn run_place(
         carried,
         payloads,
     } = Inputs::new(alloc, inputs)?;
-    run_stage(alloc, env, stage, &wires, carried, &payloads)
+    run_stage(alloc, env, stage, wires.as_slice(), carried, &payloads)
 }

@@ -1,7 +1,19 @@
-use Rattle.local_engine.proofs.Giving.{outputs_more}
+use Rattle.local_engine.proofs.Giving.{all_of_last, last_inside, last_has, outputs_with_last}
 use Rattle.local_engine.proofs.outputs.each_output.Goals as goal
 
-pub loop-edge-preserved : goal.loop-edge-preserved
-loop-edge-preserved c =
-    outputs_more c.args.given.now c.args.loads.now c.args.edges.now c.loop-edge.edge-index c.loop-edge.outputs.items c.push.new.self.items _ c.in_ok-output.output
-    c.requires c.loop-edge-test.true c.loop-edge.invariant c.in_ok-output.ensures c.in_ok-push.ensures.items
+pub copied-requires : goal.copied-requires
+copied-requires c =
+    (all_of_last c.args.given c.args.loads.now c.args.edges.now c.in-Some.before.now c.in-Some.last.now c.in-Some.ensures.cases.0 c.requires).0
+
+pub bounds-loads-last : goal.bounds-loads-last
+bounds-loads-last c =
+    last_inside c.args.given c.args.loads.now c.args.edges.now c.in-Some.before.now c.in-Some.last.now c.in-Some.ensures.cases.0 c.requires
+
+pub last_cargo-requires : goal.last_cargo-requires
+last_cargo-requires c =
+    last_has c.args.given c.args.loads.now c.args.edges.now c.in-Some.before.now c.in-Some.last.now _ c.in-Some.ensures.cases.0 c.requires
+
+pub returns : goal.returns
+returns c =
+    outputs_with_last c.args.given c.args.loads.now c.args.edges.now c.in-Some.before.now c.in-Some.last.now c.in_ok-outputs.outputs.items c.push.new.self.items _ c.in_ok-output.output
+    c.in-Some.ensures.cases.0 c.requires c.in_ok-outputs.ensures c.in_ok-output.ensures c.in_ok-push.ensures.items

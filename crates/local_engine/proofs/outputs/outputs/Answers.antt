@@ -8,5 +8,5 @@ use Rattle.local_engine.proofs.outputs.outputs.Goals as goal
 
 pub returns-in_ok-outputs-in-Some : goal.returns-in_ok-outputs-in-Some
 returns-in_ok-outputs-in-Some c =
-    let all = all_alone c.args.given.now c.in-Some.value c.args.loads.now c.args.edges.now c.in-Some.is (c.if-gives_no_more.ensures.carried refl) (c.if-gives_no_more.ensures.out refl) c.requires in
-    subst (λ (vs : List Cargo). AreMeanings (λ e v. IsCargoAt c.args.given.now (slice_get c.args.loads.now e) v) c.args.edges.now vs) (sym c.in_ok-outputs-in-Some.ensures) all
+    let all = all_alone c.args.given c.in-Some.value c.args.loads.now c.args.edges.now c.in-Some.is (c.if-gives_no_more.ensures.carried refl) (c.if-gives_no_more.ensures.out refl) c.requires in
+    subst (λ (vs : List Cargo). AreMeanings (λ e v. IsCargoAt c.args.given (slice_get c.args.loads.now e) v) c.args.edges.now vs) (sym c.in_ok-outputs-in-Some.ensures) all

@@ -1,4 +1,4 @@
-use Rattle.std.proofs.Common.{ℕ, ◌++◌, List, take, ap, ◌∙◌, subst}
+use Rattle.std.proofs.Common.{ℕ, List, take, subst}
 use Rattle.sha2.specs.Hashers.{Holds256}
 use Rattle.frames.specs.Bytes.{IsSendable, joined}
 use Rattle.local_engine.specs.declared.item.Load.{Load}
@@ -7,8 +7,8 @@ use Rattle.local_engine.specs.Report.{frames_of}
 use Rattle.local_engine.proofs.Lines.{each_sendable, joined_next}
 use Rattle.local_engine.proofs.report.digest_of.Goals as goal
 
-pub frame_bytes-requires : goal.frame_bytes-requires
-frame_bytes-requires c =
+pub add_frame-requires : goal.add_frame-requires
+add_frame-requires c =
     rw c.index-sent-at.is
     (each_sendable IsSendable c.args.loads.now c.args.sent.now c.loop-at.at _ c.index-sent-at.result c.loop-at-test.true c.requires.count
     c.requires.sendable)
@@ -19,6 +19,4 @@ loop-at-preserved c =
     let before : List ℕ = joined (frames_of (take c.loop-at.at c.args.loads.now) (take c.loop-at.at c.args.sent.now)) in
     let next = joined_next c.args.loads.now c.args.sent.now c.loop-at.at none c.index-sent-at.result c.loop-at-test.true c.requires.count
     c.index-sent-at.is in
-    subst (λ (m : List ℕ). Holds256 c.update.new.self m)
-    (ap (λ (more : List ℕ). before ++ more) (c.as_slice.ensures.value ∙ c.in_ok-bytes.ensures) ∙ next)
-    (c.update.ensures before c.loop-at.invariant)
+    subst (λ (m : List ℕ). Holds256 c.add_frame.new.hasher m) next (c.add_frame.ensures before c.loop-at.invariant)

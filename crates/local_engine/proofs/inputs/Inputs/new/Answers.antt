@@ -1,26 +1,46 @@
-use Rattle.local_engine.proofs.Sorting.{rest_next, sorted_value, sorted_kept, sorted_message}
+use Rattle.std.proofs.Common.{◌<◌, List, Some, length, take, ap, sym, ◌∙◌, subst, arith}
+use Rattle.local_engine.specs.declared.cargo.Cargo.{Cargo}
+use Rattle.local_engine.proofs.Sorting.{IsSorted, sorted_value, sorted_kept, sorted_message, next_left, left_next, few_so_far}
 use Rattle.local_engine.proofs.inputs.Inputs.new.Goals as goal
 
-pub loop-input-preserved-in-Value : goal.loop-input-preserved-in-Value
-loop-input-preserved-in-Value c = (
-  sorted_value c.loop-input.wires.items c.push.new.self.items c.loop-input.carried c.loop-input.payloads.items c.loop-input.yielded
-      c.in-Some.input c.in-Value.value c.loop-input.invariant.0 c.in-Value.is c.in_ok-push-in-Value.ensures.items,
-  rest_next c.args.inputs.items c.loop-input.yielded c.loop-input.input-iterator.rest.items c.next.new.self.rest.items c.in-Some.input
-      c.loop-input.invariant.1 c.in-Some.ensures.steps.0,
-)
+pub with-wires-requires : goal.with-wires-requires
+with-wires-requires c =
+    let old = c.args.inputs.now.items in
+    let within : c.loop-at.at < length old = omega (arith, c.loop-at-test.true, c.len-at-end.ensures) in
+    let next = next_left c.loop-at.at old c.loop-at.inputs.items c.index_mut.result.now c.index_mut.result.now c.loop-at.invariant.1 within c.index_mut.ensures.value in
+    let is = sym c.replace.ensures.value ∙ c.in-Value.is in
+    let few = few_so_far old c.loop-at.at 2 c.index_mut.result.now c.in-Value.value next is c.requires in
+    omega (arith, few, ap length c.loop-at.invariant.0.wires_are)
 
-pub loop-input-preserved-in-Kept : goal.loop-input-preserved-in-Kept
-loop-input-preserved-in-Kept c = (
-  sorted_kept c.loop-input.wires.items c.loop-input.carried c.loop-input.payloads.items c.loop-input.yielded
-      c.in-Some.input c.in-Kept.kept c.loop-input.invariant.0 c.in-Kept.is,
-  rest_next c.args.inputs.items c.loop-input.yielded c.loop-input.input-iterator.rest.items c.next.new.self.rest.items c.in-Some.input
-      c.loop-input.invariant.1 c.in-Some.ensures.steps.0,
-)
+pub loop-at-preserved-in-Value : goal.loop-at-preserved-in-Value
+loop-at-preserved-in-Value c =
+    let old = c.args.inputs.now.items in
+    let within : c.loop-at.at < length old = omega (arith, c.loop-at-test.true, c.len-at-end.ensures) in
+    let next = next_left c.loop-at.at old c.loop-at.inputs.items c.index_mut.result.now c.index_mut.result.now c.loop-at.invariant.1 within c.index_mut.ensures.value in
+    let sorted = sorted_value c.loop-at.wires c.with-wires.result c.loop-at.carried c.loop-at.payloads.items (take c.loop-at.at old)
+    c.index_mut.result.now c.in-Value.value c.loop-at.invariant.0 (sym c.replace.ensures.value ∙ c.in-Value.is) c.with-wires.ensures in (
+      subst (λ (cs : List Cargo). IsSorted c.with-wires.result c.loop-at.carried c.loop-at.payloads.items cs) (sym next) sorted,
+      left_next c.loop-at.at old c.loop-at.inputs.items _ c.loop-at.invariant.1,
+    )
 
-pub loop-input-preserved : goal.loop-input-preserved
-loop-input-preserved c = (
-  sorted_message c.loop-input.wires.items c.loop-input.carried c.loop-input.payloads.items c.push-in-Message.new.self.items c.loop-input.yielded
-      c.in-Some.input c.in-Message.payload c.loop-input.invariant.0 c.in-Message.is c.in_ok-push-in-Message.ensures.items,
-  rest_next c.args.inputs.items c.loop-input.yielded c.loop-input.input-iterator.rest.items c.next.new.self.rest.items c.in-Some.input
-      c.loop-input.invariant.1 c.in-Some.ensures.steps.0,
-)
+pub loop-at-preserved-in-Kept : goal.loop-at-preserved-in-Kept
+loop-at-preserved-in-Kept c =
+    let old = c.args.inputs.now.items in
+    let within : c.loop-at.at < length old = omega (arith, c.loop-at-test.true, c.len-at-end.ensures) in
+    let next = next_left c.loop-at.at old c.loop-at.inputs.items c.index_mut.result.now c.index_mut.result.now c.loop-at.invariant.1 within c.index_mut.ensures.value in
+    let sorted = sorted_kept c.loop-at.wires c.loop-at.carried c.loop-at.payloads.items (take c.loop-at.at old)
+    c.index_mut.result.now c.in-Kept.kept c.loop-at.invariant.0 (sym c.replace.ensures.value ∙ c.in-Kept.is) in (
+      subst (λ (cs : List Cargo). IsSorted c.loop-at.wires (Some c.in-Kept.kept) c.loop-at.payloads.items cs) (sym next) sorted,
+      left_next c.loop-at.at old c.loop-at.inputs.items _ c.loop-at.invariant.1,
+    )
+
+pub loop-at-preserved : goal.loop-at-preserved
+loop-at-preserved c =
+    let old = c.args.inputs.now.items in
+    let within : c.loop-at.at < length old = omega (arith, c.loop-at-test.true, c.len-at-end.ensures) in
+    let next = next_left c.loop-at.at old c.loop-at.inputs.items c.index_mut.result.now c.index_mut.result.now c.loop-at.invariant.1 within c.index_mut.ensures.value in
+    let sorted = sorted_message c.loop-at.wires c.loop-at.carried c.loop-at.payloads.items c.push.new.self.items (take c.loop-at.at old)
+    c.index_mut.result.now c.in-Message.payload c.loop-at.invariant.0 (sym c.replace.ensures.value ∙ c.in-Message.is) c.in_ok-push-in-Message.ensures.items in (
+      subst (λ (cs : List Cargo). IsSorted c.loop-at.wires c.loop-at.carried c.push.new.self.items cs) (sym next) sorted,
+      left_next c.loop-at.at old c.loop-at.inputs.items _ c.loop-at.invariant.1,
+    )

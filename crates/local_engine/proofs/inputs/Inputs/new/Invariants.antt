@@ -1,8 +1,8 @@
-use Rattle.std.proofs.Common.{◌≡◌, ◌++◌}
-use Rattle.local_engine.proofs.Sorting.{IsSorted}
+use Rattle.std.proofs.Common.{take}
+use Rattle.local_engine.proofs.Sorting.{IsSorted, AreLeft}
 use Rattle.local_engine.proofs.inputs.Inputs.new.Given as goal
 
-abbrev pub invariant-loop-input : goal.invariant-loop-input
-invariant-loop-input l =
-    IsSorted l.wires.items l.carried l.payloads.items l.yielded
-    × (l.yielded ++ l.input-iterator.rest.items ≡ l.fn.inputs.items)
+abbrev pub invariant-loop-at : goal.invariant-loop-at
+invariant-loop-at l =
+    IsSorted l.wires l.carried l.payloads.items (take l.at l.fn.inputs.items)
+    × AreLeft l.at l.fn.inputs.items l.inputs.items

@@ -1,4 +1,4 @@
-use Rattle.std.proofs.Common.{sym, ap, subst, ◌∙◌}
+use Rattle.std.proofs.Common.{refl, sym, ap, subst, ◌∙◌}
 use Rattle.turn_core.specs.Graph.{incoming, outgoing}
 use Rattle.task_pool.specs.Meanings.{AreMeanings}
 use Rattle.local_engine.specs.Running.{Running}
@@ -22,8 +22,8 @@ run_item-requires-clause-inputs c =
     let less = within plan c.self.inside.graph.now.dag c.args.self.now.graph c.args.item (ap (λ (x : Running). x.graph) c.self.view_is) c.self.invariant.graph_is c.requires.is_item in
     let there = place_there plan c.self.inside.graph.now.items.items c.args.item c.index-place.result.now c.self.invariant.items_are less c.index-place.ensures in
     let are = subst (λ (x : Running). AreMeanings (edge_means x.plan x.owns) (incoming x.graph c.args.item) c.args.inputs.now.items) (sym c.self.view_is) c.requires.inputs in
-    inputs_at plan owns c.self.inside.graph.now.dag c.args.item c.index-place.result.now c.args.inputs.now.items c.replace-inputs.result.items
-    c.self.invariant.plan_is c.self.invariant.graph_is less there are (ap (λ v. v.items) c.replace-inputs.ensures.value)
+    inputs_at plan owns c.self.inside.graph.now.dag c.args.item c.index-place.result.now c.args.inputs.now.items c.args.inputs.now.items
+    c.self.invariant.plan_is c.self.invariant.graph_is less there are refl
 
 pub outputs-requires : goal.outputs-requires
 outputs-requires c =

@@ -2,7 +2,7 @@ use Rattle.std.proofs.Common.{take}
 use Rattle.std.specs.Prelude.{slice_get}
 use Rattle.task_pool.specs.Meanings.{AreMeanings}
 use Rattle.local_engine.specs.Meaning.{IsCargoAt}
-use Rattle.local_engine.proofs.outputs.each_output.Given as goal
+use Rattle.local_engine.proofs.outputs.copied.Given as goal
 
 abbrev pub invariant-loop-edge : goal.invariant-loop-edge
 invariant-loop-edge l =
