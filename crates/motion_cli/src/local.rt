@@ -92,14 +92,15 @@ fn run_circuit<'a>(
 {
     let plan = plan_of(alloc, words.circuit.as_str(), circuit)?;
     let values = values_of(alloc, words.values.as_str(), circuit, values)?;
-    let parts = parts_of(
+    let taken = parts_of(
         alloc,
         prefix_of(words),
         &words.seed,
         &plan,
         parts.as_slice(),
     )?;
-    Ok(run_and_report(alloc, words, circuit, plan, &values, parts.as_slice())?)
+    drop(parts);
+    Ok(run_and_report(alloc, words, circuit, plan, &values, taken.as_slice())?)
 }
 
 /// Runs all parties, and reports what each is told and the digest of what it sent.
