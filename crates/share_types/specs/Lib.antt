@@ -3,3 +3,4 @@ pub mod Bits
 pub mod Needs
 pub mod PartyLaws
 pub mod Sums
+pub mod Wires

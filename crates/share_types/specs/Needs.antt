@@ -1,5 +1,5 @@
 -- Counts of correlations by kind.
-use Rattle.std.specs.Prelude.{ℕ, ◌<◌, ◌≤◌}
+use Rattle.std.specs.Prelude.{ℕ, ◌+◌, ◌<◌, ◌≤◌}
 use Rattle.share_types.specs.declared.needs.Needs.{Needs}
 use Rattle.share_types.specs.declared.needs.Kind.{Kind}
 use Rattle.share_types.specs.declared.needs.Kind.TheVariants.{Mult, Bit, Shared, Key}
@@ -10,6 +10,19 @@ count_of needs Mult = needs.mult
 count_of needs Bit = needs.bit
 count_of needs Shared = needs.shared
 count_of needs Key = needs.key
+
+-- no correlation
+abbrev pub no_needs : Needs
+no_needs = record { mult = 0; bit = 0; shared = 0; key = 0 }
+
+-- what is needed together
+abbrev pub sum_of_needs : Needs → Needs → Needs
+sum_of_needs n m = record {
+  mult = n.mult + m.mult;
+  bit = n.bit + m.bit;
+  shared = n.shared + m.shared;
+  key = n.key + m.key;
+}
 
 -- the place of a kind in their order
 abbrev pub place_of : Kind → ℕ

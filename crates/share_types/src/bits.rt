@@ -31,6 +31,26 @@ impl Bits {
         Some(Bits { word, width })
     }
 
+    /// The vector of a width that has no bit.
+    pub fn zeros(width: u8) -> Bits
+        requires some { 1 ≤ width }
+        requires most { width ≤ most_width }
+        ensures word { result.word ≡ 0 }
+        ensures width { result.width ≡ width }
+    {
+        Bits { word: 0, width }
+    }
+
+    /// The vector of a width whose bits are all 1.
+    pub fn ones(width: u8) -> Bits
+        requires some { 1 ≤ width }
+        requires most { width ≤ most_width }
+        ensures word { result.word ≡ 2 ^ width - 1 }
+        ensures width { result.width ≡ width }
+    {
+        Bits::zeros(width).not()
+    }
+
     /// Bit by bit, 1 where the two differ.
     pub fn xor(self, other: Bits) -> Bits
         requires { other.width ≡ self.width }

@@ -5,6 +5,7 @@ mod bits;
 mod keys;
 mod laws;
 mod needs;
+mod receiver;
 mod records;
 mod sharing;
 
@@ -12,5 +13,6 @@ pub use bits::{Bits, BitsList};
 pub use keys::{Key, Keys, Online};
 pub use laws::{bits_are_numbers, operations_are_bitwise, sums_are_by_party};
 pub use needs::{Kind, Needs, TooFew};
+pub use receiver::Receiver;
 pub use records::{BitTriple, KeyBit, MultTriple, SharedBit};
 pub use sharing::{Sharing, WireType};

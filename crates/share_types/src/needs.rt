@@ -1,5 +1,5 @@
-ghost use Rattle.std.specs.Prelude.{◌≡◌, ◌<◌, ◌≤◌, OnOk, OnErr, IfErr};
-ghost use Rattle.share_types.specs.Needs.{count_of, IsFirstShort};
+ghost use Rattle.std.specs.Prelude.{◌≡◌, ◌+◌, ◌<◌, ◌≤◌, ◌^◌, OnOk, OnErr, IfErr};
+ghost use Rattle.share_types.specs.Needs.{count_of, no_needs, sum_of_needs, IsFirstShort};
 ghost use Rattle.share_types.specs.declared.needs.Kind.{Kind};
 
 use thiserror::Error;
@@ -37,6 +37,34 @@ pub struct TooFew {
 }
 
 impl Needs {
+    /// No correlation.
+    pub fn none() -> Needs
+        ensures { result ≡ no_needs }
+    {
+        Needs {
+            mult: 0,
+            bit: 0,
+            shared: 0,
+            key: 0,
+        }
+    }
+
+    /// What both need together.
+    pub fn plus(self, other: Needs) -> Needs
+        requires mult { self.mult + other.mult < 2 ^ 32 }
+        requires bit { self.bit + other.bit < 2 ^ 32 }
+        requires shared { self.shared + other.shared < 2 ^ 32 }
+        requires key { self.key + other.key < 2 ^ 32 }
+        ensures { result ≡ sum_of_needs self other }
+    {
+        Needs {
+            mult: self.mult + other.mult,
+            bit: self.bit + other.bit,
+            shared: self.shared + other.shared,
+            key: self.key + other.key,
+        }
+    }
+
     /// How many of that kind.
     pub fn count(&self, kind: Kind) -> u32
         ensures { result ≡ count_of self.now kind }

@@ -1,3 +1,8 @@
+ghost use Rattle.std.specs.Prelude.{◌≡◌};
+ghost use Rattle.share_types.specs.Wires.{sharing_of, width_of};
+
+use mot_base::MAX_WIDTH;
+
 /// The ways in which parties share a wire.
 #[derive(Clone, Copy, Debug, PartialEq, Eq)]
 pub enum Sharing {
@@ -18,4 +23,27 @@ pub enum WireType {
     B(u8),
     /// A vector of bits as BMR keys, with free XOR and point-and-permute.
     Y(u8),
+}
+
+impl WireType {
+    /// How the value is shared.
+    pub fn sharing(self) -> Sharing
+        ensures { result ≡ sharing_of self }
+    {
+        match self {
+            WireType::A => Sharing::A,
+            WireType::B(_) => Sharing::B,
+            WireType::Y(_) => Sharing::Y,
+        }
+    }
+
+    /// How many bits the value has: 64 where it is a word.
+    pub fn width(self) -> u8
+        ensures { result ≡ width_of self }
+    {
+        match self {
+            WireType::A => MAX_WIDTH,
+            WireType::B(width) | WireType::Y(width) => width,
+        }
+    }
 }

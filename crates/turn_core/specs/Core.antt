@@ -108,3 +108,9 @@ IsSettled c =
 abbrev pub HasInputs : Graph → Flags → ℕ → Type 0
 HasInputs g turned k =
     (e : ℕ) → e < length g.edges → target g e ≡ k → (source g e ≡ OUTSIDE) ⊎ IsIn turned (source g e)
+
+-- of a settled core in which no item may be handed out, every item was handed out
+abbrev pub NothingIsLeft : Type 0
+NothingIsLeft =
+    (c : Core) → IsCore c → IsSettled c → ((k : ℕ) → IsReady c k → ⊥)
+    → (k : ℕ) → k < c.graph.items → IsIn c.handed k

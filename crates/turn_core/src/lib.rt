@@ -12,7 +12,7 @@ mod work;
 
 pub use dag::{Dag, DagError};
 pub use edge::{Edge, OUTSIDE, TERMINAL};
-pub use laws::{edges_are_listed, runs_keep_order};
+pub use laws::{edges_are_listed, ends_are_no_items, nothing_is_left, runs_keep_order};
 pub use steps::Steps;
 pub use turns::Turns;
 pub use work::DrainWork;
