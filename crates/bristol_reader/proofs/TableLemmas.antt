@@ -5,8 +5,8 @@ use Rattle.std.specs.Fmt.{decimal}
 use Rattle.std.proofs.lemmas.Fmt.{decimal_injective}
 use Rattle.std.proofs.lemmas.List.{append_cancel_left, drop_more, drop_all, drop-drop, length-take-le, length-drop, length_push, take-append-drop, nil_from_length}
 use Rattle.std.proofs.lemmas.List.Sums.{sum_by-cons}
-use Rattle.circuit_values.specs.declared.receiver.Receiver.{Receiver}
-use Rattle.circuit_values.specs.declared.receiver.Receiver.TheVariants.{All}
+use Rattle.share_types.specs.declared.receiver.Receiver.{Receiver}
+use Rattle.share_types.specs.declared.receiver.Receiver.TheVariants.{All}
 use Rattle.circuit_values.specs.Table.{Input, Output, Told, AreNamedApart, AreCut}
 use Rattle.circuit_values.specs.Values.{HaveWidths}
 use Rattle.bristol_reader.specs.Circuit.{Circuit}

@@ -1,6 +1,6 @@
 -- Output values, cut from the bits of the last wires one after another.
 use Rattle.std.specs.Prelude.{ℕ, ◌+◌, Bool, List, [], ◌∷◌, take, drop}
-use Rattle.circuit_values.specs.declared.receiver.Receiver.TheVariants.{All}
+use Rattle.share_types.specs.declared.receiver.Receiver.TheVariants.{All}
 use Rattle.circuit_values.specs.Table.{Told}
 use Rattle.bristol_reader.specs.Table.{output_name}
 

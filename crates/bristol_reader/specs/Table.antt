@@ -1,7 +1,7 @@
 -- The input and the output values of a circuit, with their names.
 use Rattle.std.specs.Prelude.{ℕ, ◌≡◌, ◌+◌, ◌%◌, Bool, List, [], ◌∷◌, ◌++◌, length, map, codes}
 use Rattle.std.specs.Fmt.{decimal}
-use Rattle.circuit_values.specs.declared.receiver.Receiver.TheVariants.{All}
+use Rattle.share_types.specs.declared.receiver.Receiver.TheVariants.{All}
 use Rattle.circuit_values.specs.Table.{Input, Output}
 use Rattle.bristol_reader.specs.Circuit.{Circuit}
 use Rattle.text_lines.specs.Text.{Text}

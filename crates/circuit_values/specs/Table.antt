@@ -1,10 +1,10 @@
 -- Tables of a circuit's inputs and outputs, and what of the outputs a party is told.
-use Rattle.std.specs.Prelude.{ℕ, ◌≡◌, ◌+◌, ◌==◌, Bool, true, List, [], ◌∷◌, slice_get, length, map, filter, flat_map, Option, Some, None}
+use Rattle.std.specs.Prelude.{ℕ, ◌≡◌, ◌+◌, Bool, true, List, [], ◌∷◌, slice_get, length, map, filter, flat_map, Option, Some, None}
 use Rattle.mot_base.specs.declared.Party.{Party}
 use Rattle.share_types.specs.declared.bits.Bits.{Bits}
 use Rattle.share_types.specs.Bits as vector
-use Rattle.circuit_values.specs.declared.receiver.Receiver.{Receiver}
-use Rattle.circuit_values.specs.declared.receiver.Receiver.TheVariants.{All, One}
+use Rattle.share_types.specs.declared.receiver.Receiver.{Receiver}
+use Rattle.share_types.specs.Wires.{includes}
 use Rattle.text_lines.specs.Text.{Text}
 
 -- an input: its name, the party whose value it is, and how many bits the value has
@@ -30,15 +30,10 @@ pub record Told : Type 0 where
   pub to : Receiver
   pub bits : List Bool
 
--- whether a receiver is a party, or all
-abbrev pub is_receiver : Receiver → Party → Bool
-is_receiver All party = true
-is_receiver (One other) party = other.0 == party.0
-
 -- whether a party is told an output; without a party, any output is asked for
 abbrev pub is_asked : Option Party → Output → Bool
 is_asked None output = true
-is_asked (Some party) output = is_receiver output.to party
+is_asked (Some party) output = includes output.to party.0
 
 -- the outputs of a table that a party is told, in their order
 abbrev pub asked : Option Party → List Output → List Output

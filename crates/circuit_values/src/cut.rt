@@ -3,12 +3,11 @@
 ghost use Rattle.std.specs.Prelude.{◌≡◌, ◌==◌, ◌<◌, ◌≤◌, ◌+◌, ◌^◌, ◌++◌, ◌∷◌, [], length, drop, slice_get, OnOk, OnErr, IfOk, IfSome};
 ghost use Rattle.std.specs.List.{sum_by};
 ghost use Rattle.mot_base.specs.Limits.{most_gates};
-ghost use Rattle.circuit_values.specs.Table.{is_receiver, is_asked, asked, joined_bits, total_width, AreCut};
+ghost use Rattle.circuit_values.specs.Table.{is_asked, asked, joined_bits, total_width, AreCut};
 ghost use Rattle.circuit_values.specs.Cut.{CutsOnce, told_next, width_next};
 
 use crate::bits::push_bits;
 use crate::outputs::OutputTable;
-use crate::receiver::Receiver;
 use crate::told::Outputs;
 use mot_base::{NoMemory, Party};
 use share_types::Bits;
@@ -132,17 +131,7 @@ fn is_asked_for(table: &OutputTable, at: u32, party: Option<Party>) -> bool
     ensures { IfSome (slice_get table.now at) (λ o. result ≡ is_asked party o) }
 {
     match party {
-        Some(party) => is_told(table.receiver(at), party),
+        Some(party) => table.receiver(at).includes(party),
         None => true,
-    }
-}
-
-/// Whether a receiver is a party, or all.
-fn is_told(to: Receiver, party: Party) -> bool
-    ensures { result ≡ is_receiver to party }
-{
-    match to {
-        Receiver::All => true,
-        Receiver::One(other) => other.0 == party.0,
     }
 }

@@ -10,7 +10,6 @@ mod inputs;
 mod literal;
 mod outputs;
 mod read;
-mod receiver;
 mod told;
 mod values;
 
@@ -19,6 +18,6 @@ pub use cut::cuts_once;
 pub use inputs::InputTable;
 pub use outputs::OutputTable;
 pub use read::{each_text_reads_or_faults, read_values};
-pub use receiver::Receiver;
+pub use share_types::Receiver;
 pub use told::Outputs;
 pub use values::{Values, number_of};

@@ -1,7 +1,7 @@
 ghost use Rattle.std.specs.Prelude.{◌≡◌, ◌<◌, ◌≤◌, ◌==◌, ◌++◌, [], ◌∷◌, length, slice_get, option_map, Some, OnOk, OnErr};
 ghost use Rattle.mot_base.specs.Limits.{most_gates};
 
-use crate::receiver::Receiver;
+use share_types::Receiver;
 use mot_base::NoMemory;
 use std::alloc::Global;
 use std::marker::Model;

@@ -3,7 +3,7 @@ ghost use Rattle.mot_base.specs.Limits.{most_width, most_gates};
 ghost use Rattle.share_types.specs.Bits as vector;
 
 use crate::bits::push_bits;
-use crate::receiver::Receiver;
+use share_types::Receiver;
 use mot_base::NoMemory;
 use share_types::Bits;
 use std::alloc::Global;

@@ -1,6 +1,6 @@
 //! A run of eight parties, each with a task for each gate, whose payloads are handed over one by one.
 
-ghost use Rattle.local_engine.specs.Job.{IsJob};
+ghost use Rattle.local_run.specs.Job.{IsJob};
 
 use crate::conditions::is_job;
 use crate::jobs::{ALONE, Circuit, Parts, job_of, lowered, parts_of};

@@ -3,15 +3,15 @@
 ghost use Rattle.std.specs.Prelude.{◌≡◌, ◌<◌, ◌≤◌, ◌+◌, ℕ, true, [], length, slice_get, get_or, Some, None};
 ghost use Rattle.std.specs.Option.{option_copied};
 ghost use Rattle.share_types.specs.declared.needs.Kind.{Kind};
-ghost use Rattle.share_types.specs.Needs.{count_of};
+ghost use Rattle.share_types.specs.Needs.{count_of, sum_of_needs};
 ghost use Rattle.circuit_values.specs.Values.{HaveWidths};
 ghost use Rattle.dealer_files.specs.Part.{counts_of};
-ghost use Rattle.gate_plan.specs.Gate.{Gate};
-ghost use Rattle.gate_plan.specs.Needs.{all_needs, sum_of_needs};
+ghost use Rattle.plan_gates.specs.Gate.{Gate};
+ghost use Rattle.plan_gates.specs.Needs.{all_needs};
 ghost use Rattle.gate_tasks.specs.declared.own.Own.{Own};
 ghost use Rattle.gate_tasks.specs.Stage.{HasInput, IsOf, AreOperands};
 ghost use Rattle.gate_tasks.specs.Task.{HoldTypes};
-ghost use Rattle.local_engine.specs.Job.{ServeParty, IsJob};
+ghost use Rattle.local_run.specs.Job.{ServeParty, IsJob};
 
 use circuit_values::InputTable;
 use dealer_files::DealerPart;

@@ -3,7 +3,7 @@
 ghost use Rattle.std.specs.Prelude.{◌<◌, ℕ, length, IfOk};
 ghost use Rattle.gate_tasks.specs.Stage.{Serves};
 ghost use Rattle.gate_tasks.specs.Task.{ExpectsAll};
-ghost use Rattle.local_engine.specs.Job.{IsJob};
+ghost use Rattle.local_run.specs.Job.{IsJob};
 
 use crate::conditions::hold_types;
 use dealer_files::DealerPart;
@@ -30,7 +30,7 @@ pub(crate) struct Seat<'r> {
 impl<'r> Model for Seat<'r> {
     ghost use Rattle.std.specs.Prelude.{◌≡◌, ◌<◌, ℕ, length};
     ghost use Rattle.gate_tasks.specs.Task.{ExpectsAll};
-    ghost use Rattle.local_engine.specs.Job.{IsJob};
+    ghost use Rattle.local_run.specs.Job.{IsJob};
 
     ghost Value = { ℕ };
 

@@ -2,7 +2,7 @@
 
 ghost use Rattle.std.specs.Prelude.{◌<◌, length};
 ghost use Rattle.gate_tasks.specs.Stage.{AreOperands};
-ghost use Rattle.local_engine.specs.Job.{IsJob};
+ghost use Rattle.local_run.specs.Job.{IsJob};
 
 use crate::conditions::{are_operands, is_job};
 use crate::jobs::{ALONE, Circuit, Parts, job_of, lowered, parts_of};

@@ -7,12 +7,12 @@ use Rattle.std.proofs.lemmas.List.{length-append}
 use Rattle.std.proofs.lemmas.Option.{slice_get_within}
 use Rattle.share_types.specs.Sums.{each}
 use Rattle.share_types.proofs.Parties.{length-each}
-use Rattle.circuit_values.specs.declared.receiver.Receiver.TheVariants.{All}
-use Rattle.gate_plan.specs.Gate.{Gate, Vector, InB, ConstB, XorB, XorConstB, AndB, OutB, width_at}
-use Rattle.gate_plan.specs.Plan.{IsGate, IsOperand}
+use Rattle.share_types.specs.declared.receiver.Receiver.TheVariants.{All}
+use Rattle.plan_gates.specs.Gate.{Gate, Vector, InB, ConstB, XorB, XorConstB, AndB, OutB, width_at}
+use Rattle.plan_gates.specs.Plan.{IsGate, IsOperand}
 use Rattle.gate_plan.specs.Bristol.{bit_gate}
 use Rattle.gate_plan.specs.Wired.{IsBit, IsBitAt}
-use Rattle.gate_plan.proofs.NeedsLemmas.{kept, slice_get-each}
+use Rattle.plan_gates.proofs.NeedsLemmas.{kept, slice_get-each}
 
 -- each gate is one
 pub record AreBits (gates : List Gate) : Type 0 where

@@ -10,7 +10,7 @@ use Rattle.std.proofs.lemmas.List.Sums.{sum_by_more_le}
 use Rattle.mot_base.specs.Limits.{most_gates}
 use Rattle.share_types.specs.Sums.{each}
 use Rattle.share_types.proofs.Parties.{each_more, length-each}
-use Rattle.circuit_values.specs.declared.receiver.Receiver.TheVariants.{All}
+use Rattle.share_types.specs.declared.receiver.Receiver.TheVariants.{All}
 use Rattle.bristol_reader.specs.declared.kind.BristolKind.{BristolKind}
 use Rattle.bristol_reader.specs.declared.kind.BristolKind.TheVariants.{Xor, And, Inv, Eq, Eqw, Mand}
 use Rattle.bristol_reader.specs.Kinds.{is_arity, is_constant}
@@ -20,12 +20,12 @@ use Rattle.bristol_reader.specs.Line.{input_bound}
 use Rattle.bristol_reader.specs.Built.{FitsBehind, IsCircuit, first_gates}
 use Rattle.bristol_reader.proofs.BoolLemmas.{below_at}
 use Rattle.bristol_reader.proofs.EvalLemmas.{in_set, all_set, output_set}
-use Rattle.gate_plan.specs.Gate.{Gate, InB, XorB, AndB, XorConstB, OutB}
-use Rattle.gate_plan.specs.Plan.{Gates, IsGate, with_gate}
+use Rattle.plan_gates.specs.Gate.{Gate, InB, XorB, AndB, XorConstB, OutB}
+use Rattle.plan_gates.specs.Plan.{Gates, IsGate, with_gate}
 use Rattle.gate_plan.specs.Bristol.{gates_of_kind, gates_of_gate, bristol_gates_before, all_bristol_gates, bit_gate, input_gates, kind_gates, first_output, Wiring, rewired, with_bristol, wired_before, output_gates}
 use Rattle.gate_plan.specs.Wired.{with_gates, gate_in, IsBitAt, AreUsable, IsWired}
-use Rattle.gate_plan.proofs.NeedsLemmas.{each-same}
-use Rattle.gate_plan.proofs.PlanLemmas.{fields}
+use Rattle.plan_gates.proofs.NeedsLemmas.{each-same}
+use Rattle.plan_gates.proofs.PlanLemmas.{fields}
 use Rattle.gate_plan.proofs.BristolCountLemmas.{few_outs}
 use Rattle.gate_plan.proofs.BristolBitLemmas.{at_kept, valid_and, valid_output}
 use Rattle.gate_plan.proofs.BristolWireLemmas.{rewired_same}

@@ -12,7 +12,7 @@ use Rattle.share_types.specs.Sums.{each}
 use Rattle.share_types.specs.Bits.{once, number, bits, differ}
 use Rattle.share_types.proofs.Parties.{length-each}
 use Rattle.share_types.proofs.BitsLemmas.{number-cut}
-use Rattle.circuit_values.specs.declared.receiver.Receiver.TheVariants.{All}
+use Rattle.share_types.specs.declared.receiver.Receiver.TheVariants.{All}
 use Rattle.bristol_reader.specs.declared.kind.BristolKind.{BristolKind}
 use Rattle.bristol_reader.specs.declared.kind.BristolKind.TheVariants.{Xor, And, Inv, Eq, Eqw, Mand}
 use Rattle.bristol_reader.specs.Kinds.{is_arity, is_constant, output_bit}
@@ -25,11 +25,10 @@ use Rattle.bristol_reader.specs.Table.{HaveInputWidths}
 use Rattle.bristol_reader.specs.Eval.{bit_at, input_bit, AreWireBits, output_bits}
 use Rattle.bristol_reader.proofs.BoolLemmas.{below_at}
 use Rattle.bristol_reader.proofs.EvalLemmas.{in_set, set_next, among_place, input_alone, set_not_among, all_set, output_set}
-use Rattle.gate_plan.specs.Gate.{Gate, receiver_of, InB, ConstB, XorB, XorConstB, AndB, OutB}
-use Rattle.gate_plan.specs.Plain.{Seen, number_of, seen_of, gate_number, number_at, plain_before}
-use Rattle.gate_plan.specs.Keeps.{GateTold, told_entry, told_by}
+use Rattle.plan_gates.specs.Gate.{Gate, receiver_of, InB, ConstB, XorB, XorConstB, AndB, OutB}
+use Rattle.plan_gates.specs.Plain.{Seen, number_of, seen_of, gate_number, number_at, plain_before, GateTold, told_entry, told_by}
 use Rattle.gate_plan.specs.Bristol.{bit_gate, input_gates, kind_gates, first_output, Wiring, rewired, with_bristol, wired_before, output_gates, bristol_lowered, told_bits, KeepsBristol}
-use Rattle.gate_plan.proofs.NeedsLemmas.{kept, last, slice_get-each}
+use Rattle.plan_gates.proofs.NeedsLemmas.{kept, last, slice_get-each}
 use Rattle.gate_plan.proofs.BristolBitLemmas.{AreBits, slice_get-behind}
 use Rattle.gate_plan.proofs.BristolWireLemmas.{rewired_out, rewired_other}
 use Rattle.gate_plan.proofs.BristolPlanLemmas.{fixed_input, length_inputs, length_outputs, bits_wired, wired_kept, inside}

@@ -9,7 +9,7 @@ use Rattle.std.proofs.lemmas.List.Sums.{sum_by-cons}
 use Rattle.std.proofs.lemmas.Option.{slice_get-get_or}
 use Rattle.share_types.specs.Sums.{each}
 use Rattle.share_types.proofs.Parties.{length-each}
-use Rattle.circuit_values.specs.declared.receiver.Receiver.TheVariants.{All}
+use Rattle.share_types.specs.declared.receiver.Receiver.TheVariants.{All}
 use Rattle.bristol_reader.specs.declared.kind.BristolKind.{BristolKind}
 use Rattle.bristol_reader.specs.declared.kind.BristolKind.TheVariants.{Xor, And, Inv, Eq, Eqw, Mand}
 use Rattle.bristol_reader.specs.Kinds.{is_arity, is_constant}
@@ -18,9 +18,9 @@ use Rattle.bristol_reader.specs.Circuit.{Circuit, is_among, is_set, are_apart, o
 use Rattle.bristol_reader.specs.Stored.{a_gate}
 use Rattle.bristol_reader.specs.Built.{IsBuilt, first_gates}
 use Rattle.bristol_reader.proofs.EvalLemmas.{in_set, set_next, among_place, input_alone, set_not_among}
-use Rattle.gate_plan.specs.Gate.{InB, ConstB, XorB, XorConstB, AndB, OutB}
+use Rattle.plan_gates.specs.Gate.{InB, ConstB, XorB, XorConstB, AndB, OutB}
 use Rattle.gate_plan.specs.Bristol.{gates_of_kind, gates_of_gate, bristol_gates_before, all_bristol_gates, bit_gate, input_gates, kind_gates, first_output, Wiring, rewired, with_bristol, wired_before, output_gates, bristol_lowered}
-use Rattle.gate_plan.proofs.NeedsLemmas.{kept}
+use Rattle.plan_gates.proofs.NeedsLemmas.{kept}
 use Rattle.gate_plan.proofs.BristolBitLemmas.{AreBits, bits_none, bits_more, one_bit, bits_each}
 use Rattle.gate_plan.proofs.BristolWireLemmas.{rewired_out, rewired_other}
 

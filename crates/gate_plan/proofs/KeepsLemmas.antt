@@ -16,7 +16,8 @@ use Rattle.mixed_circuit.specs.declared.language.Operation.{Operation}
 use Rattle.mixed_circuit.specs.declared.language.Operation.TheVariants.{InputWord, InputBits, ConstWord, ConstBits, Add, Sub, Mul, AddConst, MulConst, Xor, And, Not, Slice, Join, A2Y, A2B, B2Y, Y2B, B2A, Y2A, Output}
 use Rattle.mixed_circuit.specs.declared.operand.Operand.{Operand}
 use Rattle.mixed_circuit.specs.Language.{gives, states, is_name_slot, is_told_slot, arity_of}
-use Rattle.mixed_circuit.specs.Circuit.{Circuit, Statement, wire_type, width_of, wire_at}
+use Rattle.mixed_circuit.specs.Circuit.{Circuit, Statement, wire_at}
+use Rattle.share_types.specs.Wires.{wire_type, width_of}
 use Rattle.mixed_circuit.specs.Said.{IsCircuit}
 use Rattle.mixed_circuit.specs.Table.{inputs_of, told_value, name_at, receiver_of}
 use Rattle.mixed_circuit.specs.Table as table
@@ -24,13 +25,13 @@ use Rattle.mixed_circuit.specs.Eval.{IsEvaluated, number_made, value_made, value
 use Rattle.mixed_circuit.specs.Eval as eval
 use Rattle.mixed_circuit.proofs.WidthLemmas.{circuit_wide}
 use Rattle.mixed_circuit.proofs.ListLemmas.{same_some, take_next}
-use Rattle.gate_plan.specs.Gate as plan
-use Rattle.gate_plan.specs.Gate.{Kind, Gate, width_at}
-use Rattle.gate_plan.specs.Plain.{number_of, seen_of, gate_number, number_at, plain_before}
+use Rattle.plan_gates.specs.Gate as plan
+use Rattle.plan_gates.specs.Gate.{Kind, Gate, width_at}
+use Rattle.plan_gates.specs.Plain.{number_of, seen_of, gate_number, number_at, plain_before, GateTold, told_entry, plain_numbers}
 use Rattle.gate_plan.specs.Lowering.{Source, kind_made, source_of, operand_gate, handled_by, all_built, gates_before, lowered_before, lowered, wire_handled, width_handled}
 use Rattle.gate_plan.specs.Keeps as keeps
-use Rattle.gate_plan.specs.Keeps.{GateTold, told_entry, unnamed, plain_numbers, KeepsValues, KeepsEvaluation}
-use Rattle.gate_plan.proofs.NeedsLemmas.{last, kept}
+use Rattle.gate_plan.specs.Keeps.{unnamed, KeepsValues, KeepsEvaluation}
+use Rattle.plan_gates.proofs.NeedsLemmas.{last, kept}
 use Rattle.gate_plan.proofs.GatesLemmas.{Named, Names, Tells, named, numbers, gate_at, gate_kind, next_gate, count, some_at, flat_some, handled_own}
 use Rattle.gate_plan.proofs.StepLemmas.{row, operand_place, numbered, wire_among}
 

@@ -1,7 +1,3 @@
-pub mod NeedsLemmas
-pub mod PlanLemmas
-pub mod MessageLemmas
-pub mod SlotLemmas
 pub mod RowLemmas
 pub mod HandledLemmas
 pub mod ValidLemmas

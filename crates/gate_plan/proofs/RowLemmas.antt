@@ -8,7 +8,8 @@ use Rattle.mixed_circuit.specs.declared.language.Operation.{Operation}
 use Rattle.mixed_circuit.specs.declared.language.Operation.TheVariants.{InputWord, InputBits, ConstWord, ConstBits, Add, Sub, Mul, AddConst, MulConst, Xor, And, Not, Slice, Join, A2Y, A2B, B2Y, Y2B, B2A, Y2A, Output}
 use Rattle.mixed_circuit.specs.declared.operand.Operand.{Operand}
 use Rattle.mixed_circuit.specs.Language.{domain_of, widths_of, is_in, gives, states, is_name_slot, is_letter_slot, is_width_slot, arity_of}
-use Rattle.mixed_circuit.specs.Circuit.{Circuit, Statement, sharing_of, is_shared, wire_type, wire_at}
+use Rattle.mixed_circuit.specs.Circuit.{Circuit, Statement, wire_at}
+use Rattle.share_types.specs.Wires.{sharing_of, is_shared, wire_type}
 use Rattle.mixed_circuit.specs.Line.{Parts, operand_of, operands_of, sharing_given, width_given, is_party}
 use Rattle.mixed_circuit.specs.Said.{IsSaid}
 use Rattle.mixed_circuit.specs.Stated.{AreWhole, IsSomeName}

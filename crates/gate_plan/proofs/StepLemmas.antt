@@ -11,15 +11,16 @@ use Rattle.mixed_circuit.specs.declared.language.Operation.TheVariants.{ConstBit
 use Rattle.mixed_circuit.specs.declared.operand.Operand.{Operand}
 use Rattle.mixed_circuit.specs.Language.{gives, states, is_name_slot, widths_of, arity_of, domain_of, is_in}
 use Rattle.mixed_circuit.specs.Line.{width_given}
-use Rattle.mixed_circuit.specs.Circuit.{Circuit, Statement, Shape, wire_type, wire_at, width_of, party_told}
+use Rattle.mixed_circuit.specs.Circuit.{Circuit, Statement, Shape, wire_at}
+use Rattle.share_types.specs.Wires.{wire_type, width_of, party_told}
 use Rattle.mixed_circuit.specs.Said.{IsCircuit}
 use Rattle.mixed_circuit.specs.Wide.{IsWide}
 use Rattle.mixed_circuit.specs.Table.{inputs_of, told_value, receiver_of}
 use Rattle.mixed_circuit.proofs.ListLemmas.{same_some}
 use Rattle.mixed_circuit.proofs.WidthLemmas.{circuit_wide, took}
-use Rattle.gate_plan.specs.declared.gate.GateKind.{GateKind}
-use Rattle.gate_plan.specs.Gate.{Kind, kind_of}
-use Rattle.gate_plan.specs.Plan.{IsGate}
+use Rattle.plan_gates.specs.declared.gate.GateKind.{GateKind}
+use Rattle.plan_gates.specs.Gate.{Kind, kind_of}
+use Rattle.plan_gates.specs.Plan.{IsGate}
 use Rattle.gate_plan.specs.Lowering.{Source, kind_made, source_by, source_of, wire_handled, width_handled, is_keys, is_word, all_built, operand_gate, gates_before, lowered_before}
 use Rattle.gate_plan.proofs.RowLemmas.{IsRow}
 use Rattle.gate_plan.proofs.ValidLemmas.{Sound, IsValid, valid, valid_output, OneOperand, one_operand}

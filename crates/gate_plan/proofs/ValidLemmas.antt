@@ -15,13 +15,14 @@ use Rattle.mixed_circuit.specs.declared.language.Operation.TheVariants.{InputWor
 use Rattle.mixed_circuit.specs.declared.operand.Operand.{Operand}
 use Rattle.mixed_circuit.specs.declared.language.Widths.TheVariants.{Cut, Joined}
 use Rattle.mixed_circuit.specs.Language.{domain_of, widths_of, is_in, gives, arity_of, states, is_name_slot, is_width_slot}
-use Rattle.mixed_circuit.specs.Circuit.{Statement, is_shared, wire_type, wire_at, width_of, party_told}
+use Rattle.mixed_circuit.specs.Circuit.{Statement, wire_at}
+use Rattle.share_types.specs.Wires.{is_shared, wire_type, width_of, party_told}
 use Rattle.mixed_circuit.specs.Line.{Parts, width_given, alike_width}
 use Rattle.mixed_circuit.specs.Wide.{IsWide}
 use Rattle.mixed_circuit.proofs.ListLemmas.{same_some}
-use Rattle.gate_plan.specs.Gate as plan
-use Rattle.gate_plan.specs.Gate.{Kind, Gate, Given, Word, Vector, width_at}
-use Rattle.gate_plan.specs.Plan.{IsOperand, IsGate}
+use Rattle.plan_gates.specs.Gate as plan
+use Rattle.plan_gates.specs.Gate.{Kind, Gate, Given, Word, Vector, width_at}
+use Rattle.plan_gates.specs.Plan.{IsOperand, IsGate}
 use Rattle.gate_plan.specs.Lowering.{Source, kind_made, is_keys, is_word}
 
 -- what the gate of a value gives that is shared so

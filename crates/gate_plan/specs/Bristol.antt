@@ -4,16 +4,16 @@ use Rattle.share_types.specs.declared.sharing.Sharing.{Sharing}
 use Rattle.share_types.specs.declared.sharing.Sharing.TheVariants.{Y}
 use Rattle.share_types.specs.Sums.{each}
 use Rattle.share_types.specs.Bits as vector
-use Rattle.circuit_values.specs.declared.receiver.Receiver.TheVariants.{All}
+use Rattle.share_types.specs.declared.receiver.Receiver.TheVariants.{All}
 use Rattle.bristol_reader.specs.declared.kind.BristolKind.{BristolKind}
 use Rattle.bristol_reader.specs.declared.kind.BristolKind.TheVariants.{Xor, And, Inv, Eq, Eqw, Mand}
 use Rattle.bristol_reader.specs.Circuit as bristol
 use Rattle.bristol_reader.specs.Circuit.{Circuit, output_wires}
 use Rattle.bristol_reader.specs.Table.{HaveInputWidths}
 use Rattle.bristol_reader.specs.Eval.{AreWireBits, output_bits}
-use Rattle.gate_plan.specs.Gate.{Kind, Gate, InB, ConstB, XorB, XorConstB, AndB, OutB}
-use Rattle.gate_plan.specs.Plan.{Gates}
-use Rattle.gate_plan.specs.Keeps.{GateTold, told_by, plain_numbers}
+use Rattle.plan_gates.specs.Gate.{Kind, Gate, InB, ConstB, XorB, XorConstB, AndB, OutB}
+use Rattle.plan_gates.specs.Plan.{Gates}
+use Rattle.plan_gates.specs.Plain.{GateTold, told_by, plain_numbers}
 
 -- ---- how many gates there are
 

@@ -3,8 +3,8 @@ use Rattle.std.specs.Prelude.{ℕ, ◌≡◌, ◌<◌, true, false, List, ◌++�
 use Rattle.bristol_reader.specs.declared.kind.BristolKind.{BristolKind}
 use Rattle.bristol_reader.specs.Kinds.{is_constant}
 use Rattle.bristol_reader.specs.Circuit.{Circuit}
-use Rattle.gate_plan.specs.Gate.{Gate, Vector, gives, receiver_of}
-use Rattle.gate_plan.specs.Plan.{Gates}
+use Rattle.plan_gates.specs.Gate.{Gate, Vector, gives, receiver_of}
+use Rattle.plan_gates.specs.Plan.{Gates}
 use Rattle.gate_plan.specs.Bristol.{wired_before}
 
 -- a gate of one bit that is shared by XOR

@@ -8,7 +8,7 @@ ghost use Rattle.gate_plan.specs.Bristol.{are_keys, gates_of_kind, gates_of_end,
 
 use crate::error::PlanError;
 use crate::expand::lower_bits;
-use crate::plan::Plan;
+use plan_gates::Plan;
 use bristol_reader::{Bristol, BristolKind};
 use mot_base::MAX_GATES;
 use share_types::Sharing;

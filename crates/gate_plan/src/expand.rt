@@ -8,12 +8,12 @@ ghost use Rattle.bristol_reader.specs.declared.kind.BristolKind.TheVariants.{Eqw
 ghost use Rattle.bristol_reader.specs.Kinds.{is_arity};
 ghost use Rattle.bristol_reader.specs.Circuit.{are_apart};
 ghost use Rattle.bristol_reader.specs.Built.{IsCircuit};
-ghost use Rattle.gate_plan.specs.Gate.{InB, AndB, kind_of, stated_width};
+ghost use Rattle.plan_gates.specs.Gate.{InB, AndB, kind_of, stated_width};
 ghost use Rattle.gate_plan.specs.Bristol.{all_bristol_gates, gates_of_kind, bit_gate, input_gates, kind_gates, first_output, rewired, bristol_lowered, KeepsBristol};
 ghost use Rattle.gate_plan.specs.Wired.{with_gates, gate_in, IsWired, AreUsable, IsBitAt};
 
-use crate::gate::GateKind;
-use crate::plan::Plan;
+use plan_gates::GateKind;
+use plan_gates::Plan;
 use bristol_reader::{Bristol, BristolKind};
 use circuit_values::Receiver;
 use mot_base::{NoMemory, Party};

@@ -7,8 +7,8 @@ ghost use Rattle.gate_plan.specs.Lowering.{wire_handled, is_keys, gates_of, gate
 ghost use Rattle.gate_plan.specs.Keeps.{KeepsEvaluation};
 
 use crate::error::PlanError;
-use crate::plan::Plan;
-use crate::statement::{gate_of, inputs_taken, width_in, wire_handled};
+use plan_gates::Plan;
+use crate::statement::{gate_of, inputs_taken, wire_handled};
 use mixed_circuit::{Form, Mixed};
 use mot_base::{MAX_GATES, NoMemory};
 use share_types::WireType;
@@ -146,7 +146,7 @@ fn with_statement(plan: Plan, circuit: &Mixed, at: u32, inputs: u32) -> Result<P
         return Ok(plan);
     };
     match gate_of(circuit.form(at), inputs, wire) {
-        Some(kind) => plan.with_gate(kind, width_in(wire)),
+        Some(kind) => plan.with_gate(kind, wire.width()),
         None => Ok(plan),
     }
 }

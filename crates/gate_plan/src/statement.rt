@@ -3,14 +3,15 @@
 ghost use Rattle.std.specs.Prelude.{◌≡◌, ◌<◌, ◌≤◌, ◌-◌, ◌^◌, length, slice_get, slice_index, option_map, Some, None, IfSome, if◌then◌else◌};
 ghost use Rattle.mot_base.specs.Limits.{most_width};
 ghost use Rattle.mixed_circuit.specs.declared.language.Operation.TheVariants.{ConstBits};
-ghost use Rattle.mixed_circuit.specs.Circuit.{shape_of, width_of};
+ghost use Rattle.mixed_circuit.specs.Circuit.{shape_of};
+ghost use Rattle.share_types.specs.Wires.{width_of};
 ghost use Rattle.mixed_circuit.specs.Said.{AreEarlier};
 ghost use Rattle.mixed_circuit.specs.Eval.{inputs_taken};
 ghost use Rattle.mixed_circuit.specs.Wide.{IsWide};
-ghost use Rattle.gate_plan.specs.Gate.{OutA, OutB, kind_of, stated_width};
+ghost use Rattle.plan_gates.specs.Gate.{OutA, OutB, kind_of, stated_width};
 ghost use Rattle.gate_plan.specs.Lowering.{handled_by, wire_handled, is_word, kind_made, source_by};
 
-use crate::gate::GateKind;
+use plan_gates::GateKind;
 use circuit_values::Receiver;
 use mixed_circuit::{Form, Mixed};
 use mot_base::MAX_WIDTH;
@@ -37,16 +38,6 @@ fn place_handled(form: Form, at: u32) -> u32
     }
 }
 
-/// The width of a value that is shared so.
-pub fn width_in(wire: WireType) -> u8
-    ensures { result ≡ width_of wire }
-{
-    match wire {
-        WireType::A => MAX_WIDTH,
-        WireType::B(width) | WireType::Y(width) => width,
-    }
-}
-
 /// How many inputs a statement of that form takes: 1 where it is one, else 0.
 pub fn inputs_taken(form: Form) -> u32
     ensures value { result ≡ inputs_taken (shape_of form) }
@@ -67,7 +58,7 @@ pub fn gate_of(form: Form, k: u32, wire: WireType) -> Option<GateKind>
         ≡ kind_made (shape_of form).operation (source_by (λ at. at) (shape_of form) k (Some wire)) }
     ensures stated { IfSome result (λ kind. IfSome (stated_width kind) (λ width. width ≡ width_of wire)) }
 {
-    let width = width_in(wire);
+    let width = wire.width();
     match form {
         Form::InputA { party } => Some(GateKind::InA { party, k }),
         Form::InputB { party, .. } | Form::InputY { party, .. } => Some(GateKind::InB {
@@ -85,7 +76,7 @@ pub fn gate_of(form: Form, k: u32, wire: WireType) -> Option<GateKind>
         Form::MulConstA { x, c } => Some(GateKind::MulConstA { x, c }),
         Form::XorB { x, y } | Form::XorY { x, y } => Some(GateKind::XorB { x, y }),
         Form::AndB { x, y } | Form::AndY { x, y } => Some(GateKind::AndB { x, y }),
-        Form::NotB { x } | Form::NotY { x } => Some(GateKind::XorConstB { x, c: ones(width) }),
+        Form::NotB { x } | Form::NotY { x } => Some(GateKind::XorConstB { x, c: Bits::ones(width) }),
         Form::SliceB { x, at, .. } | Form::SliceY { x, at, .. } => {
             Some(GateKind::SliceB { x, at, width })
         }
@@ -93,16 +84,6 @@ pub fn gate_of(form: Form, k: u32, wire: WireType) -> Option<GateKind>
         Form::Output { x, to } => Some(output(x, to, wire)),
         _ => None,
     }
-}
-
-/// The vector of a width whose bits are all 1.
-fn ones(width: u8) -> Bits
-    requires some { 1 ≤ width }
-    requires most { width ≤ most_width }
-    ensures word { result.word ≡ 2 ^ width - 1 }
-    ensures width { result.width ≡ width }
-{
-    Bits { word: 0, width }.not()
 }
 
 /// The output gate of a value that is shared so.

@@ -7,11 +7,12 @@ use Rattle.byteorder.specs.Numbers.{big_from-take}
 use Rattle.byteorder.specs.Endian.{big_number}
 use Rattle.message_demux.specs.Slots.{vector_bytes, overflows, has_high_bits}
 use Rattle.message_demux.specs.Slots as slots
-use Rattle.gate_plan.specs.declared.message.Message.{Message}
-use Rattle.gate_plan.specs.Gate.{Kind, Gate, width_at, InA, MulA, OutA, InB, AndB, OutB}
-use Rattle.gate_plan.specs.Plan.{Gates}
-use Rattle.gate_plan.specs.Messages.{words, vectors, messages_of, message, are_two, is_told}
-use Rattle.gate_plan.proofs.MessageLemmas.{gate_there}
+use Rattle.plan_gates.specs.declared.message.Message.{Message}
+use Rattle.plan_gates.specs.Gate.{Kind, Gate, width_at, InA, MulA, OutA, InB, AndB, OutB}
+use Rattle.plan_gates.specs.Plan.{Gates}
+use Rattle.plan_gates.specs.Messages.{words, vectors, messages_of, message, are_two}
+use Rattle.share_types.specs.Wires.{includes}
+use Rattle.plan_gates.proofs.MessageLemmas.{gate_there}
 use Rattle.share_types.specs.Sums.{each}
 use Rattle.gate_tasks.specs.Payload.{vector_in}
 use Rattle.gate_tasks.specs.Party.{Payload}
@@ -24,8 +25,8 @@ use Rattle.std.proofs.lemmas.Bool.Decides.{nat_tests}
 use Rattle.std.specs.Prelude.{◌==◌, IfSome}
 use Rattle.std.proofs.Common.{not}
 use Rattle.std.proofs.lemmas.Bool.{eqb-false}
-use Rattle.gate_plan.specs.Plan.{IsPlan}
-use Rattle.gate_plan.specs.Gate.{party_of}
+use Rattle.plan_gates.specs.Plan.{IsPlan}
+use Rattle.plan_gates.specs.Gate.{party_of}
 use Rattle.gate_tasks.proofs.Hearing.{sends, senders_one}
 
 pub passes : {X : Type 0} (q : X → Bool) (xs : List X) (i : ℕ) (x : X) → slice_get (filter q xs) i ≡ Some x → q x ≡ true
@@ -71,14 +72,14 @@ words_sent : (kind : Kind) (w from to : ℕ) (b : Bool) (m : Message) → 0 < wo
     (if b then first_of (messages_of kind w from to) else None) ≡ Some m → m ≡ words (words_heard (Some kind))
 words_sent (InA party k) w from to b m h e = one_given b (from == party) (words 1) m e
 words_sent (MulA x y) w from to b m h e = always_given b (words 2) m e
-words_sent (OutA x receiver) w from to b m h e = one_given b (is_told receiver to) (words 1) m e
+words_sent (OutA x receiver) w from to b m h e = one_given b (includes receiver to) (words 1) m e
 words_sent _ w from to b m h e = absurd (omega (arith, h))
 
 vectors_sent : (kind : Kind) (w from to : ℕ) (b : Bool) (m : Message) → 0 < vectors_heard (Some kind) →
     (if b then first_of (messages_of kind w from to) else None) ≡ Some m → m ≡ vectors (vectors_heard (Some kind)) w
 vectors_sent (InB party k at) w from to b m h e = one_given b (from == party) (vectors 1 w) m e
 vectors_sent (AndB x y) w from to b m h e = always_given b (vectors 2 w) m e
-vectors_sent (OutB x receiver) w from to b m h e = one_given b (is_told receiver to) (vectors 1 w) m e
+vectors_sent (OutB x receiver) w from to b m h e = one_given b (includes receiver to) (vectors 1 w) m e
 vectors_sent _ w from to b m h e = absurd (omega (arith, h))
 
 -- the vectors of a payload without high bits are small

@@ -12,7 +12,7 @@ use Rattle.std.specs.FinMap as map
 use Rattle.std.specs.Prelude.{IfSome}
 use Rattle.message_demux.specs.Fit.{Fits}
 use Rattle.message_demux.specs.Kept.{InboxContents}
-use Rattle.gate_plan.specs.Plan.{Gates}
+use Rattle.plan_gates.specs.Plan.{Gates}
 use Rattle.gate_tasks.specs.Task.{option_list, KeptFit, slot_from}
 use Rattle.gate_tasks.proofs.Grown.{some_is}
 use Rattle.gate_tasks.proofs.Hearing.{filter_next}

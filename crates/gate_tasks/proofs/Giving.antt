@@ -10,9 +10,9 @@ use Rattle.share_types.specs.declared.bits.Bits.{Bits}
 use Rattle.share_types.specs.Sums.{word_difference, total, sum_to, xor_to, each}
 use Rattle.share_types.proofs.Parties.{sum_to_same, xor_to_same, length-each}
 use Rattle.boolean_gmw.specs.Sharing.{share_given, own_word, low_word, given_word}
-use Rattle.gate_plan.specs.declared.message.Message.{Message}
-use Rattle.gate_plan.specs.Plan.{Gates}
-use Rattle.gate_plan.specs.Messages.{message, are_two}
+use Rattle.plan_gates.specs.declared.message.Message.{Message}
+use Rattle.plan_gates.specs.Plan.{Gates}
+use Rattle.plan_gates.specs.Messages.{message, are_two}
 use Rattle.gate_tasks.specs.Party.{Payload}
 use Rattle.gate_tasks.specs.Sending.{outs_by, out_by}
 use Rattle.gate_tasks.specs.declared.own.StageEnv.{StageEnv}

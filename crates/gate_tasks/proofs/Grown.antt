@@ -5,7 +5,7 @@ use Rattle.std.specs.Option.{unwrap_or}
 use Rattle.std.proofs.lemmas.List.{length-append}
 use Rattle.std.proofs.lemmas.Bool.{cases_lt}
 use Rattle.share_types.specs.Sums.{total, sum_to}
-use Rattle.gate_plan.proofs.NeedsLemmas.{last, kept}
+use Rattle.plan_gates.proofs.NeedsLemmas.{last, kept}
 
 pub some_is : {X : Type 0} (x y : X) → Some x ≡ Some y → x ≡ y
 some_is x y e = ap (λ o. unwrap_or o x) e

@@ -10,11 +10,12 @@ use Rattle.std.proofs.lemmas.List.Elements.{filter-append}
 use Rattle.std.proofs.lemmas.Bool.{cases_lt, lt-ltb, eqb-true, eqb-false, eq-eqb, ne_eqb}
 use Rattle.share_types.specs.Sums.{total, xor_total, sum_to, xor_to, each}
 use Rattle.share_types.proofs.Parties.{total-append, xor_total-append}
-use Rattle.gate_plan.specs.declared.message.Message.{Message}
-use Rattle.gate_plan.specs.Gate.{Kind, Gate, InA, ConstA, AddA, SubA, AddConstA, MulConstA, MulA, OutA, InB, ConstB, XorB, XorConstB, SliceB, JoinB, AndB, OutB, party_of}
-use Rattle.gate_plan.specs.Plan.{Gates, IsPlan}
-use Rattle.gate_plan.specs.Messages.{words, vectors, messages_of, messages_at, message, are_two, is_told, hears}
-use Rattle.gate_plan.proofs.MessageLemmas.{any_here, any_more}
+use Rattle.plan_gates.specs.declared.message.Message.{Message}
+use Rattle.plan_gates.specs.Gate.{Kind, Gate, InA, ConstA, AddA, SubA, AddConstA, MulConstA, MulA, OutA, InB, ConstB, XorB, XorConstB, SliceB, JoinB, AndB, OutB, party_of}
+use Rattle.plan_gates.specs.Plan.{Gates, IsPlan}
+use Rattle.plan_gates.specs.Messages.{words, vectors, messages_of, messages_at, message, are_two, hears}
+use Rattle.share_types.specs.Wires.{includes}
+use Rattle.plan_gates.proofs.MessageLemmas.{any_here, any_more}
 use Rattle.gate_tasks.specs.Stage.{senders}
 use Rattle.gate_tasks.specs.ByValue.{hears_at}
 
@@ -126,10 +127,10 @@ message_is plan from to g gate e = ap (λ o. if are_two plan.parties from to the
 abbrev pub sends : Kind → ℕ → ℕ → Bool
 sends (InA party k) from to = from == party
 sends (MulA x y) from to = true
-sends (OutA x receiver) from to = is_told receiver to
+sends (OutA x receiver) from to = includes receiver to
 sends (InB party k at) from to = from == party
 sends (AndB x y) from to = true
-sends (OutB x receiver) from to = is_told receiver to
+sends (OutB x receiver) from to = includes receiver to
 sends _ from to = false
 
 if_sent : (b c : Bool) (m : Message) → is_some (if b then first_of ((if c then Some m else None) ∷ []) else None) ≡ (b && c)
@@ -150,10 +151,10 @@ kind_sends : (kind : Kind) (w from to : ℕ) (b : Bool) →
     is_some (if b then first_of (messages_of kind w from to) else None) ≡ (b && sends kind from to)
 kind_sends (InA party k) w from to b = if_sent b (from == party) (words 1)
 kind_sends (MulA x y) w from to b = always_sent b (words 2)
-kind_sends (OutA x receiver) w from to b = if_sent b (is_told receiver to) (words 1)
+kind_sends (OutA x receiver) w from to b = if_sent b (includes receiver to) (words 1)
 kind_sends (InB party k at) w from to b = if_sent b (from == party) (vectors 1 w)
 kind_sends (AndB x y) w from to b = always_sent b (vectors 2 w)
-kind_sends (OutB x receiver) w from to b = if_sent b (is_told receiver to) (vectors 1 w)
+kind_sends (OutB x receiver) w from to b = if_sent b (includes receiver to) (vectors 1 w)
 kind_sends (ConstA c) w from to b = never_sent b
 kind_sends (AddA x y) w from to b = never_sent b
 kind_sends (SubA x y) w from to b = never_sent b
@@ -240,12 +241,12 @@ module _ (plan : Gates) (me g : ℕ) (gate : Gate) (valid : IsPlan plan) (here :
       let names : party < plan.parties = subst (λ k. IfSome (party_of k) (λ p. p < plan.parties)) of (valid.each g gate here).party in
       input (InA party k) party of (λ q. refl) names (party == me) refl
   hears_is (MulA x y) of = told (MulA x y) true of (λ q. refl)
-  hears_is (OutA x receiver) of = told (OutA x receiver) (is_told receiver me) of (λ q. refl)
+  hears_is (OutA x receiver) of = told (OutA x receiver) (includes receiver me) of (λ q. refl)
   hears_is (InB party k at) of =
       let names : party < plan.parties = subst (λ k. IfSome (party_of k) (λ p. p < plan.parties)) of (valid.each g gate here).party in
       input (InB party k at) party of (λ q. refl) names (party == me) refl
   hears_is (AndB x y) of = told (AndB x y) true of (λ q. refl)
-  hears_is (OutB x receiver) of = told (OutB x receiver) (is_told receiver me) of (λ q. refl)
+  hears_is (OutB x receiver) of = told (OutB x receiver) (includes receiver me) of (λ q. refl)
   hears_is (ConstA c) of = told (ConstA c) false of (λ q. refl)
   hears_is (AddA x y) of = told (AddA x y) false of (λ q. refl)
   hears_is (SubA x y) of = told (SubA x y) false of (λ q. refl)

@@ -7,9 +7,10 @@ use Rattle.std.proofs.lemmas.Bool.{ltb-true, eqb-true, eqb-false, eq-eqb, ne_eqb
 use Rattle.byteorder.specs.Numbers.{length-bytes_high_first}
 use Rattle.byteorder.specs.Endian.{big_bytes}
 use Rattle.message_demux.specs.Slots.{vector_bytes}
-use Rattle.gate_plan.specs.Gate.{Kind, Gate, width_at, InA, ConstA, AddA, SubA, AddConstA, MulConstA, MulA, OutA, InB, ConstB, XorB, XorConstB, SliceB, JoinB, AndB, OutB}
-use Rattle.gate_plan.specs.Plan.{Gates}
-use Rattle.gate_plan.specs.Messages.{words, vectors, messages_of, messages_at, message, are_two, is_told}
+use Rattle.plan_gates.specs.Gate.{Kind, Gate, width_at, InA, ConstA, AddA, SubA, AddConstA, MulConstA, MulA, OutA, InB, ConstB, XorB, XorConstB, SliceB, JoinB, AndB, OutB}
+use Rattle.plan_gates.specs.Plan.{Gates}
+use Rattle.plan_gates.specs.Messages.{words, vectors, messages_of, messages_at, message, are_two}
+use Rattle.share_types.specs.Wires.{includes}
 use Rattle.gate_tasks.specs.Payload.{word_bytes, vectors_bytes}
 use Rattle.gate_tasks.specs.Party.{Own, Hand, Rounds, width, hand_at, before, silence, gate_sends, sends_at, share, given_word, given_vector, left_word, right_word, left_vector, right_vector}
 use Rattle.gate_tasks.specs.Honest.{nobody}
@@ -61,7 +62,7 @@ fits (InA party k) w h got to zero e =
 fits (MulA x y) w h got to zero e = words-length (left_word h x ∷ right_word h y ∷ [])
 fits (OutA x receiver) w h got to zero e =
     let ws : List ℕ = share h x ∷ [] in
-    chosen_words (is_told receiver to) (word_bytes ws) 1 (words-length ws)
+    chosen_words (includes receiver to) (word_bytes ws) 1 (words-length ws)
 fits (InB party k at) w h got to zero e =
     let vs : List ℕ = given_vector h to ∷ [] in
     chosen (party == h.me) (vectors_bytes (width h) vs) (width h) 1 (vectors-length (width h) vs)
@@ -70,8 +71,8 @@ fits (AndB x y) w h got to zero e =
     vectors-length (width h) (left_vector h x ∷ right_vector h y ∷ []) ∙ ap (λ v. 2 * vector_bytes v) e
 fits (OutB x receiver) w h got to zero e =
     let vs : List ℕ = share h x ∷ [] in
-    chosen (is_told receiver to) (vectors_bytes (width h) vs) (width h) 1 (vectors-length (width h) vs)
-    ∙ ap (λ v. length_of (if is_told receiver to then Some (vectors 1 v) else None)) e
+    chosen (includes receiver to) (vectors_bytes (width h) vs) (width h) 1 (vectors-length (width h) vs)
+    ∙ ap (λ v. length_of (if includes receiver to then Some (vectors 1 v) else None)) e
 fits (InA party k) w h got to (suc r) e = refl
 fits (MulA x y) w h got to (suc r) e = refl
 fits (OutA x receiver) w h got to (suc r) e = refl

@@ -15,10 +15,11 @@ use Rattle.message_demux.specs.declared.slots.Shape.{Shape}
 use Rattle.message_demux.specs.declared.slots.Shape.TheVariants.{Vectors}
 use Rattle.message_demux.specs.Slots as slots
 use Rattle.message_demux.specs.Slots.{vector_bytes, overflows, has_high_bits}
-use Rattle.gate_plan.specs.Gate.{Kind, Gate, Given, Vector, gives, width_at, InA, ConstA, AddA, SubA, AddConstA, MulConstA, MulA, OutA, InB, ConstB, XorB, XorConstB, SliceB, JoinB, AndB, OutB}
-use Rattle.gate_plan.specs.Plan.{Gates, IsPlan, IsGate, IsOperand}
-use Rattle.gate_plan.specs.declared.message.Message.{Message}
-use Rattle.gate_plan.specs.Messages.{words, vectors, messages_of, messages_at, are_two, is_told}
+use Rattle.plan_gates.specs.Gate.{Kind, Gate, Given, Vector, gives, width_at, InA, ConstA, AddA, SubA, AddConstA, MulConstA, MulA, OutA, InB, ConstB, XorB, XorConstB, SliceB, JoinB, AndB, OutB}
+use Rattle.plan_gates.specs.Plan.{Gates, IsPlan, IsGate, IsOperand}
+use Rattle.plan_gates.specs.declared.message.Message.{Message}
+use Rattle.plan_gates.specs.Messages.{words, vectors, messages_of, messages_at, are_two}
+use Rattle.share_types.specs.Wires.{includes}
 use Rattle.gate_tasks.specs.Party as party
 use Rattle.gate_tasks.specs.Party.{Own, Value, Hand, Heard, share_of, share, hand_at, wires_before, party_value, value_at, gate_value, sends_at, gate_sends, before, silence, opened_vector}
 use Rattle.gate_tasks.specs.Joint.{Payloads, column, sent_by, IsJoint}
@@ -272,7 +273,7 @@ module _ (plan : Gates) (owns : List Own) (table : Payloads) (valid : IsPlan pla
       unwrap_or (slice_get (messages_of kind width from to) r) None ≡ Some m → has_high_bits m.shape (table g r from to) ≡ false
   kind_shaped g zero from to (InA owner k) width a b apart found m e = words_shaped (from == owner) 1 m (table g 0 from to) e
   kind_shaped g zero from to (MulA x y) width a b apart found m e = words_shaped true 2 m (table g 0 from to) e
-  kind_shaped g zero from to (OutA x receiver) width a b apart found m e = words_shaped (is_told receiver to) 1 m (table g 0 from to) e
+  kind_shaped g zero from to (OutA x receiver) width a b apart found m e = words_shaped (includes receiver to) 1 m (table g 0 from to) e
   kind_shaped g zero from to (InB owner k low) width a b apart found m e =
       let vs : List ℕ = party.given_vector (at g from) to ∷ [] in
       let bytes : table g 0 from to ≡ cond (from == owner) (vectors_bytes (wide g) vs) [] =
@@ -291,7 +292,7 @@ module _ (plan : Gates) (owns : List Own) (table : Payloads) (valid : IsPlan pla
   kind_shaped g zero from to (OutB x receiver) width a b apart found m e =
       let vs : List ℕ = share (at g from) x ∷ [] in
       let is = valid.each g (record { kind = OutB x receiver; width = width }) found in
-      vectors_shaped (is_told receiver to) (wide g) width 1 vs m (table g 0 from to)
+      vectors_shaped (includes receiver to) (wide g) width 1 vs m (table g 0 from to)
       (wide_is g (record { kind = OutB x receiver; width = width }) found) refl
       (fitting g x width (OutB x receiver) (λ k less. narrow k) found is.uses.0 is.fit.0 from a, tt)
       (sent g 0 to from (record { kind = OutB x receiver; width = width }) b a apart found) e

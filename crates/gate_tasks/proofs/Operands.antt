@@ -4,10 +4,10 @@ use Rattle.std.specs.Prelude.{option_map, slice_get, slice_index_or}
 use Rattle.std.specs.List.{AllByRecursion}
 use Rattle.std.specs.Option.{unwrap_or}
 use Rattle.share_types.specs.declared.bits.Bits.{Bits}
-use Rattle.gate_plan.specs.Gate.{Kind, Gate, Given, Word, Vector, width_at, gives, takes, operands, MulA, SliceB, JoinB, AndB}
-use Rattle.gate_plan.specs.Plan.{Gates, IsPlan, IsOperand, FitWidths}
-use Rattle.gate_plan.specs.Needs.{offset, needs_at, needs_of}
-use Rattle.gate_plan.proofs.MessageLemmas.{gate_there}
+use Rattle.plan_gates.specs.Gate.{Kind, Gate, Given, Word, Vector, width_at, gives, takes, operands, MulA, SliceB, JoinB, AndB}
+use Rattle.plan_gates.specs.Plan.{Gates, IsPlan, IsOperand, FitWidths}
+use Rattle.plan_gates.specs.Needs.{offset, needs_at, needs_of}
+use Rattle.plan_gates.proofs.MessageLemmas.{gate_there}
 use Rattle.mot_base.specs.Limits.{most_width}
 use Rattle.share_types.specs.declared.needs.Kind.TheVariants.{Bit}
 use Rattle.dealer_files.specs.Part.{Part}

@@ -6,11 +6,12 @@ use Rattle.std.proofs.lemmas.Bool.{eqb-true, eqb-false, eq-eqb, ne_eqb, lt-ltb}
 use Rattle.share_types.specs.declared.needs.Needs.{Needs}
 use Rattle.share_types.specs.Sums.{word_sum, word_difference, word_product, part_of_public, sum_to}
 use Rattle.share_types.proofs.Parties.{sum_to_same, map-each, total-each, by_party-each}
-use Rattle.gate_plan.specs.Gate.{Kind, Gate, Word, gives, width_at, InA, ConstA, AddA, SubA, AddConstA, MulConstA, MulA, OutA, InB, ConstB, XorB, XorConstB, SliceB, JoinB, AndB, OutB, Vector, Given}
-use Rattle.gate_plan.specs.Plan.{Gates, IsPlan, IsGate, IsOperand}
-use Rattle.gate_plan.specs.Plain.{plain_before, number_at, number_of, seen_of}
-use Rattle.gate_plan.specs.Messages.{are_two, is_told}
-use Rattle.circuit_values.specs.declared.receiver.Receiver.{Receiver}
+use Rattle.plan_gates.specs.Gate.{Kind, Gate, Word, gives, width_at, InA, ConstA, AddA, SubA, AddConstA, MulConstA, MulA, OutA, InB, ConstB, XorB, XorConstB, SliceB, JoinB, AndB, OutB, Vector, Given}
+use Rattle.plan_gates.specs.Plan.{Gates, IsPlan, IsGate, IsOperand}
+use Rattle.plan_gates.specs.Plain.{plain_before, number_at, number_of, seen_of}
+use Rattle.plan_gates.specs.Messages.{are_two}
+use Rattle.share_types.specs.Wires.{includes}
+use Rattle.share_types.specs.declared.receiver.Receiver.{Receiver}
 use Rattle.std.specs.Option.{unwrap_or}
 use Rattle.std.specs.Prelude.{option_map}
 use Rattle.gate_tasks.specs.Party as party
@@ -24,8 +25,8 @@ use Rattle.arithmetic_gmw.specs.Shares.{closed_share, opened_left, opened_right}
 use Rattle.arithmetic_gmw.specs.Laws.{Factors, IsTriple}
 use Rattle.arithmetic_gmw.proofs.Recombining.{product-recombines}
 use Rattle.dealer_files.specs.Part.{Part}
-use Rattle.gate_plan.specs.Needs.{offset, needs_at}
-use Rattle.gate_plan.proofs.NeedsLemmas.{records_never_meet}
+use Rattle.plan_gates.specs.Needs.{offset, needs_at}
+use Rattle.plan_gates.proofs.NeedsLemmas.{records_never_meet}
 use Rattle.gate_tasks.specs.Payload.{word_bytes, word_in, vectors_bytes, vector_in}
 use Rattle.std.proofs.Math.Nat.{mod-eq_of_lt, mod-lt, mul-suc, mul-le-mul_left}
 use Rattle.std.specs.Prelude.{nat_eq}
@@ -405,7 +406,7 @@ module _ (plan : Gates) (owns : List Own) (bases : Needs) (session : ℕ) (input
       ap (λ o. unwrap_or (option_map (λ (h : Gate). h.width) o) 0) there ∙ (valid.each x earlier found).word word
 
   told : (g x width p : ℕ) (to : Receiver) → p < n → slice_get plan.gates g ≡ Some (record { kind = OutA x to; width = width }) →
-      IsGate n (take g plan.gates) (record { kind = OutA x to; width = width }) → (b : Bool) → is_told to p ≡ b →
+      IsGate n (take g plan.gates) (record { kind = OutA x to; width = width }) → (b : Bool) → includes to p ≡ b →
       party.Told (if b then Some (opened_word (at g p) (share (at g p) x) (λ q. table g 0 q p) 0) else None)
       ≡ party.Told (if b then Some (numbered g) else None)
   told g x width p to a found is true e =
@@ -697,7 +698,7 @@ module _ (plan : Gates) (owns : List Own) (bases : Needs) (session : ℕ) (input
   vectors_right = strong RightVector vector_step
 
   told_vector : (g x width p : ℕ) (to : Receiver) → p < n → slice_get plan.gates g ≡ Some (record { kind = OutB x to; width = width }) →
-      IsGate n (take g plan.gates) (record { kind = OutB x to; width = width }) → (b : Bool) → is_told to p ≡ b →
+      IsGate n (take g plan.gates) (record { kind = OutB x to; width = width }) → (b : Bool) → includes to p ≡ b →
       party.Told (if b then Some (opened_vector (at g p) (share (at g p) x) (λ q. table g 0 q p) 0) else None)
       ≡ party.Told (if b then Some (numbered g) else None)
   told_vector g x width p to a found is true e =
@@ -733,7 +734,7 @@ module _ (plan : Gates) (owns : List Own) (bases : Needs) (session : ℕ) (input
   by_kind g (MulA x y) width found = right_at g (record { kind = MulA x y; width = width }) found refl
   by_kind g (OutA x to) width found = λ p h.
       ap (λ o. value_at o (at g p) (column table p g)) found
-      ∙ told g x width p to h found (valid.each g (record { kind = OutA x to; width = width }) found) (is_told to p) refl
+      ∙ told g x width p to h found (valid.each g (record { kind = OutA x to; width = width }) found) (includes to p) refl
   by_kind g (InB owner k low) width found = as_vector g (record { kind = InB owner k low; width = width }) found refl
   by_kind g (ConstB c) width found = as_vector g (record { kind = ConstB c; width = width }) found refl
   by_kind g (XorB x y) width found = as_vector g (record { kind = XorB x y; width = width }) found refl
@@ -743,7 +744,7 @@ module _ (plan : Gates) (owns : List Own) (bases : Needs) (session : ℕ) (input
   by_kind g (AndB x y) width found = as_vector g (record { kind = AndB x y; width = width }) found refl
   by_kind g (OutB x to) width found = λ p h.
       ap (λ o. value_at o (at g p) (column table p g)) found
-      ∙ told_vector g x width p to h found (valid.each g (record { kind = OutB x to; width = width }) found) (is_told to p) refl
+      ∙ told_vector g x width p to h found (valid.each g (record { kind = OutB x to; width = width }) found) (includes to p) refl
 
   whole : (g : ℕ) (here : Gate) (x : ℕ) → slice_get plan.gates g ≡ Some here →
       slice_get (plain (length plan.gates)) g ≡ Some x → Recombine here n (value g) x

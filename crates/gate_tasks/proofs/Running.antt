@@ -5,11 +5,11 @@ use Rattle.std.specs.Prelude.{◌==◌, slice_get, option_map, is_some, if◌the
 use Rattle.std.specs.List.{flat_map}
 use Rattle.std.specs.Option.{unwrap_or}
 use Rattle.share_types.specs.Sums.{each}
-use Rattle.gate_plan.specs.declared.message.Message.{Message}
-use Rattle.gate_plan.specs.Gate.{Kind, Gate, InA, MulA, OutA, InB, AndB, OutB, operands}
-use Rattle.gate_plan.specs.Plan.{Gates, IsPlan}
-use Rattle.gate_plan.specs.Messages.{message, messages_of, messages_at, are_two, hears, rounds, stages, awaits}
-use Rattle.gate_plan.proofs.MessageLemmas.{heard_is}
+use Rattle.plan_gates.specs.declared.message.Message.{Message}
+use Rattle.plan_gates.specs.Gate.{Kind, Gate, InA, MulA, OutA, InB, AndB, OutB, operands}
+use Rattle.plan_gates.specs.Plan.{Gates, IsPlan}
+use Rattle.plan_gates.specs.Messages.{message, messages_of, messages_at, are_two, hears, rounds, stages, awaits}
+use Rattle.plan_gates.proofs.MessageLemmas.{heard_is}
 use Rattle.gate_tasks.specs.Party.{Own, Value, Told, Payload, Hand, Rounds, hand, share_of, share, silence, sends_at, gate_sends, gate_value, round_sends, value_at, WordShare, VectorShare, kept_word, kept_vector, width}
 use Rattle.gate_tasks.specs.Party as party
 use Rattle.gate_tasks.specs.Payload.{word_in, vector_in}

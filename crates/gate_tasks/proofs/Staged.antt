@@ -5,9 +5,10 @@ use Rattle.std.proofs.lemmas.Bool.{eqb-true, eqb-false, eq-eqb, ne_eqb}
 use Rattle.share_types.specs.Sums.{total, xor_total, sum_to, xor_to, each, word_sum, word_difference, word_product, part_of_public}
 use Rattle.share_types.proofs.Parties.{sum_to_same, xor_to_same}
 use Rattle.arithmetic_gmw.specs.Shares as arithmetic
-use Rattle.gate_plan.specs.Gate.{Kind, Gate, InA, ConstA, AddA, SubA, AddConstA, MulConstA, MulA, OutA, InB, ConstB, XorB, XorConstB, SliceB, JoinB, AndB, OutB, operands, party_of, width_at}
-use Rattle.gate_plan.specs.Plan.{Gates, IsPlan}
-use Rattle.gate_plan.specs.Messages.{is_told, hears, rounds}
+use Rattle.plan_gates.specs.Gate.{Kind, Gate, InA, ConstA, AddA, SubA, AddConstA, MulConstA, MulA, OutA, InB, ConstB, XorB, XorConstB, SliceB, JoinB, AndB, OutB, operands, party_of, width_at}
+use Rattle.plan_gates.specs.Plan.{Gates, IsPlan}
+use Rattle.plan_gates.specs.Messages.{hears, rounds}
+use Rattle.share_types.specs.Wires.{includes}
 use Rattle.gate_tasks.specs.Payload.{word_bytes, word_in, vectors_bytes, vector_in}
 use Rattle.gate_tasks.specs.Party.{Own, Value, WordShare, VectorShare, Told, Payload, Hand, Rounds, hand, share, width, triple, bits_of, given_word, given_vector, kept_word, kept_vector, closed_vector, opened_word, opened_vector, left_word, right_word, left_vector, right_vector, gate_value, gate_sends, silence}
 use Rattle.gate_tasks.specs.Stage.{senders}
@@ -114,16 +115,16 @@ module _ (plan : Gates) (me g : ℕ) (own : Own) (before : List Value) (got : Ro
         ap₂ (λ d e. WordShare (arithmetic.closed_share me (triple h) d e))
         (ap (λ a. opened_words (arithmetic.opened_left a (triple h)) 0 heard) (agree 0 x refl) ∙ words_opened (left_word h x) 0 inside are)
         (ap (λ a. opened_words (arithmetic.opened_right a (triple h)) 1 heard) (agree 1 y refl) ∙ words_opened (right_word h y) 1 inside are)
-    value_is (OutA x to) of agree hears = by (is_told to me) refl
+    value_is (OutA x to) of agree hears = by (includes to me) refl
       where
-        by : (b : Bool) → is_told to me ≡ b → value_from (OutA x to) h0 wires heard ≡ gate_value (OutA x to) h got
+        by : (b : Bool) → includes to me ≡ b → value_from (OutA x to) h0 wires heard ≡ gate_value (OutA x to) h got
         by true e =
             ap (λ b. Told (cond b (Some (opened_words (share_in wires 0) 0 heard)) None)) e
             ∙ (ap (λ n. Told (Some n)) (ap (λ a. opened_words a 0 heard) (agree 0 x refl)
             ∙ words_opened (share h x) 0 inside (hears e ∙ ap (map (got 0)) (senders_told e)))
             ∙ sym (ap (λ b. Told (cond b (Some (opened_word h (share h x) (got 0) 0)) None)) e))
           where
-            senders_told : is_told to me ≡ true → senders plan me g 0 ≡ others plan.parties me
+            senders_told : includes to me ≡ true → senders plan me g 0 ≡ others plan.parties me
             senders_told e = senders_all plan me g gate valid here inside (OutA x to) of (λ q. e)
         by false e =
             ap (λ b. Told (cond b (Some (opened_words (share_in wires 0) 0 heard)) None)) e
@@ -148,16 +149,16 @@ module _ (plan : Gates) (me g : ℕ) (own : Own) (before : List Value) (got : Ro
         ap₂ (λ d e. VectorShare (closed_vector h d e))
         (ap (λ a. opened_vectors (width h) (bit_xor a (bits_of h 0)) 0 heard) (agree 0 x refl) ∙ vectors_opened (left_vector h x) 0 inside are)
         (ap (λ a. opened_vectors (width h) (bit_xor a (bits_of h 1)) 1 heard) (agree 1 y refl) ∙ vectors_opened (right_vector h y) 1 inside are)
-    value_is (OutB x to) of agree hears = by (is_told to me) refl
+    value_is (OutB x to) of agree hears = by (includes to me) refl
       where
-        by : (b : Bool) → is_told to me ≡ b → value_from (OutB x to) h0 wires heard ≡ gate_value (OutB x to) h got
+        by : (b : Bool) → includes to me ≡ b → value_from (OutB x to) h0 wires heard ≡ gate_value (OutB x to) h got
         by true e =
             ap (λ b. Told (cond b (Some (opened_vectors (width h) (share_in wires 0) 0 heard)) None)) e
             ∙ (ap (λ n. Told (Some n)) (ap (λ a. opened_vectors (width h) a 0 heard) (agree 0 x refl)
             ∙ vectors_opened (share h x) 0 inside (hears e ∙ ap (map (got 0)) (senders_told e)))
             ∙ sym (ap (λ b. Told (cond b (Some (opened_vector h (share h x) (got 0) 0)) None)) e))
           where
-            senders_told : is_told to me ≡ true → senders plan me g 0 ≡ others plan.parties me
+            senders_told : includes to me ≡ true → senders plan me g 0 ≡ others plan.parties me
             senders_told e = senders_all plan me g gate valid here inside (OutB x to) of (λ q. e)
         by false e =
             ap (λ b. Told (cond b (Some (opened_vectors (width h) (share_in wires 0) 0 heard)) None)) e

@@ -1,10 +1,10 @@
 -- There is exactly one joint run.
 use Rattle.std.proofs.Common.{ℕ, zero, suc, ◌≡◌, ◌<◌, Bool, true, false, cond, List, [], ◌∷◌, ◌++◌, Option, Some, None, refl, sym, ◌∙◌, ap, ap₂, arith}
 use Rattle.std.specs.Prelude.{slice_get, get_or, nat_lt, if◌then◌else◌}
-use Rattle.gate_plan.specs.Messages.{are_two}
+use Rattle.plan_gates.specs.Messages.{are_two}
 use Rattle.std.proofs.lemmas.Bool.{ltb-true}
 use Rattle.std.proofs.Math.Path.{fun_ext}
-use Rattle.gate_plan.specs.Plan.{Gates}
+use Rattle.plan_gates.specs.Plan.{Gates}
 use Rattle.gate_tasks.specs.Party.{Own, Value, Payload, Rounds, Inbox, parties, hand, before, silence, sends_at, round_sends, value_at, wires_before}
 use Rattle.gate_tasks.specs.Joint.{Payloads, column, sent_by, IsJoint}
 use Rattle.gate_tasks.specs.Laws.{OneJointRun}

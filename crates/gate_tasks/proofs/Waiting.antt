@@ -8,9 +8,9 @@ use Rattle.message_demux.specs.declared.inbox.Refused.TheVariants.{PayloadLength
 use Rattle.message_demux.specs.Slots.{slot_of, has_high_bits}
 use Rattle.message_demux.specs.Fit.{Fits, unfit, told_length}
 use Rattle.message_demux.specs.Kept.{InboxContents}
-use Rattle.gate_plan.specs.declared.message.Message.{Message}
-use Rattle.gate_plan.specs.Plan.{Gates}
-use Rattle.gate_plan.specs.Messages.{message, spec_of, are_two, awaits}
+use Rattle.plan_gates.specs.declared.message.Message.{Message}
+use Rattle.plan_gates.specs.Plan.{Gates}
+use Rattle.plan_gates.specs.Messages.{message, spec_of, are_two, awaits}
 use Rattle.gate_tasks.specs.Party.{Payload}
 use Rattle.gate_tasks.specs.Wires.{value_held}
 use Rattle.gate_tasks.specs.Stage.{HasShape, AreOperands, AreAwaited, senders, operands_at}

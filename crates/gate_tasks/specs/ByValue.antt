@@ -2,9 +2,9 @@
 use Rattle.std.specs.Prelude.{ℕ, ◌≡◌, IfSome, Bool, true, false, not, ◌+◌, ◌*◌, ◌/◌, ◌%◌, ◌^◌, ◌==◌, List, [], ◌∷◌, map, get_or, Option, Some, None, if◌then◌else◌, bit_xor}
 use Rattle.share_types.specs.Sums.{word_sum, word_difference, word_product, part_of_public, total, xor_total}
 use Rattle.arithmetic_gmw.specs.Shares as arithmetic
-use Rattle.gate_plan.specs.Gate.{Kind, Gate, Given, InA, ConstA, AddA, SubA, AddConstA, MulConstA, MulA, OutA, InB, ConstB, XorB, XorConstB, SliceB, JoinB, AndB, OutB, Word, Vector, takes, gives, width_at}
-use Rattle.gate_plan.specs.Gate as plan
-use Rattle.gate_plan.specs.Messages.{is_told}
+use Rattle.plan_gates.specs.Gate.{Kind, Gate, Given, InA, ConstA, AddA, SubA, AddConstA, MulConstA, MulA, OutA, InB, ConstB, XorB, XorConstB, SliceB, JoinB, AndB, OutB, Word, Vector, takes, gives, width_at}
+use Rattle.plan_gates.specs.Gate as plan
+use Rattle.share_types.specs.Wires.{includes}
 use Rattle.gate_tasks.specs.Payload.{word_bytes, word_in, vectors_bytes, vector_in}
 use Rattle.gate_tasks.specs.Party.{Value, WordShare, VectorShare, Told, Payload, Hand, share_of, width, triple, bits_of, given_word, given_vector, kept_word, kept_vector, closed_vector}
 use Rattle.gate_tasks.specs.Stage.{value_of, kind_at, hand_in}
@@ -76,7 +76,7 @@ value_from (AddConstA x c) h wires heard = WordShare (word_sum (share_in wires 0
 value_from (MulConstA x c) h wires heard = WordShare (word_product (share_in wires 0) c)
 value_from (MulA x y) h wires heard = WordShare (product_of h wires heard)
 value_from (OutA x to) h wires heard =
-    Told (if is_told to h.me then Some (opened_words (share_in wires 0) 0 heard) else None)
+    Told (if includes to h.me then Some (opened_words (share_in wires 0) 0 heard) else None)
 value_from (InB party k at) h wires heard =
     VectorShare (if party == h.me then kept_vector h k at else vector_in (width h) (heard_at heard 0) 0)
 value_from (ConstB c) h wires heard = VectorShare (part_of_public h.me c)
@@ -87,7 +87,7 @@ value_from (JoinB x y) h wires heard =
     VectorShare (share_in wires 0 + 2 ^ width_at h.plan.gates x * share_in wires 1)
 value_from (AndB x y) h wires heard = VectorShare (conjunction_of h wires heard)
 value_from (OutB x to) h wires heard =
-    Told (if is_told to h.me then Some (opened_vectors (width h) (share_in wires 0) 0 heard) else None)
+    Told (if includes to h.me then Some (opened_vectors (width h) (share_in wires 0) 0 heard) else None)
 
 -- ---- the gate at which a party stands, if there is one
 
@@ -180,8 +180,8 @@ vectors_heard _ = 0
 abbrev pub hears_at : Option Kind → ℕ → Bool
 hears_at (Some (InA party k)) me = not (party == me)
 hears_at (Some (MulA x y)) me = true
-hears_at (Some (OutA x to)) me = is_told to me
+hears_at (Some (OutA x to)) me = includes to me
 hears_at (Some (InB party k at)) me = not (party == me)
 hears_at (Some (AndB x y)) me = true
-hears_at (Some (OutB x to)) me = is_told to me
+hears_at (Some (OutB x to)) me = includes to me
 hears_at _ me = false

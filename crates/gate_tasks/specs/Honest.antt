@@ -5,11 +5,12 @@ use Rattle.share_types.specs.Bits.{number}
 use Rattle.share_types.specs.Sums.{sum_to, xor_to}
 use Rattle.dealer_files.specs.Part.{Part}
 use Rattle.dealer_files.specs.Honest.{HonestTogether}
-use Rattle.gate_plan.specs.Gate.{Kind, Gate, Given, Word, Vector, InA, InB, gives}
-use Rattle.gate_plan.specs.Gate as plan
-use Rattle.gate_plan.specs.Plan.{Gates}
-use Rattle.gate_plan.specs.Needs.{all_needs, sum_of_needs}
-use Rattle.gate_plan.specs.Messages.{tells}
+use Rattle.plan_gates.specs.Gate.{Kind, Gate, Given, Word, Vector, InA, InB, gives}
+use Rattle.plan_gates.specs.Gate as plan
+use Rattle.plan_gates.specs.Plan.{Gates}
+use Rattle.plan_gates.specs.Needs.{all_needs}
+use Rattle.share_types.specs.Needs.{sum_of_needs}
+use Rattle.plan_gates.specs.Messages.{tells}
 use Rattle.gate_tasks.specs.Party.{Own, Value, Told, share_of}
 
 -- a party that brings nothing

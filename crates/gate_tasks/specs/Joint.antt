@@ -1,6 +1,6 @@
 -- All parties together.
 use Rattle.std.specs.Prelude.{ℕ, ◌≡◌, List, [], slice_get, Option, Some, None}
-use Rattle.gate_plan.specs.Plan.{Gates}
+use Rattle.plan_gates.specs.Plan.{Gates}
 use Rattle.gate_tasks.specs.Party.{Own, Payload, Inbox, party_sends}
 
 -- all payloads of a run, by gate, round, sender and receiver

@@ -2,11 +2,11 @@
 use Rattle.std.specs.Prelude.{ℕ, ◌≡◌, false, [], ◌<◌, ◌%◌, ◌^◌, List, Option, Some, None, slice_get, length}
 use Rattle.share_types.specs.declared.needs.Needs.{Needs}
 use Rattle.message_demux.specs.Slots.{has_high_bits}
-use Rattle.gate_plan.specs.Gate.{Gate}
-use Rattle.gate_plan.specs.Plan.{Gates, IsPlan}
-use Rattle.gate_plan.specs.Plain.{plain_before}
-use Rattle.gate_plan.specs.declared.message.Message.{Message}
-use Rattle.gate_plan.specs.Messages.{message}
+use Rattle.plan_gates.specs.Gate.{Gate}
+use Rattle.plan_gates.specs.Plan.{Gates, IsPlan}
+use Rattle.plan_gates.specs.Plain.{plain_before}
+use Rattle.plan_gates.specs.declared.message.Message.{Message}
+use Rattle.plan_gates.specs.Messages.{message}
 use Rattle.gate_tasks.specs.Payload.{word_bytes, word_in, vectors_bytes, vector_in}
 use Rattle.gate_tasks.specs.Party.{Own, Inbox, party_value, party_sends}
 use Rattle.gate_tasks.specs.Honest.{own_at, AreHonest, AreInputs, Recombine}

@@ -8,10 +8,12 @@ use Rattle.share_types.specs.Sums.{word_sum, word_difference, word_product, part
 use Rattle.arithmetic_gmw.specs.Shares as arithmetic
 use Rattle.dealer_files.specs.Part.{Part}
 use Rattle.dealer_files.specs.Records.{vector_of}
-use Rattle.gate_plan.specs.Gate.{Kind, Gate, InA, ConstA, AddA, SubA, AddConstA, MulConstA, MulA, OutA, InB, ConstB, XorB, XorConstB, SliceB, JoinB, AndB, OutB, width_at}
-use Rattle.gate_plan.specs.Plan.{Gates}
-use Rattle.gate_plan.specs.Needs.{offset, sum_of_needs}
-use Rattle.gate_plan.specs.Messages.{is_told, are_two}
+use Rattle.plan_gates.specs.Gate.{Kind, Gate, InA, ConstA, AddA, SubA, AddConstA, MulConstA, MulA, OutA, InB, ConstB, XorB, XorConstB, SliceB, JoinB, AndB, OutB, width_at}
+use Rattle.plan_gates.specs.Plan.{Gates}
+use Rattle.plan_gates.specs.Needs.{offset}
+use Rattle.share_types.specs.Needs.{sum_of_needs}
+use Rattle.plan_gates.specs.Messages.{are_two}
+use Rattle.share_types.specs.Wires.{includes}
 use Rattle.gate_tasks.specs.Payload.{word_bytes, word_in, vectors_bytes, vector_in}
 
 -- ---- what a party has
@@ -152,7 +154,7 @@ gate_value (SubA x y) h got = WordShare (word_difference (share h x) (share h y)
 gate_value (AddConstA x c) h got = WordShare (word_sum (share h x) (part_of_public h.me c))
 gate_value (MulConstA x c) h got = WordShare (word_product (share h x) c)
 gate_value (MulA x y) h got = WordShare (product h x y (got 0))
-gate_value (OutA x to) h got = Told (if is_told to h.me then Some (opened_word h (share h x) (got 0) 0) else None)
+gate_value (OutA x to) h got = Told (if includes to h.me then Some (opened_word h (share h x) (got 0) 0) else None)
 gate_value (InB party k at) h got =
     VectorShare (if party == h.me then kept_vector h k at else vector_in (width h) (got 0 party) 0)
 gate_value (ConstB c) h got = VectorShare (part_of_public h.me c)
@@ -161,18 +163,18 @@ gate_value (XorConstB x c) h got = VectorShare (bit_xor (share h x) (part_of_pub
 gate_value (SliceB x at) h got = VectorShare (share h x / 2 ^ at % 2 ^ width h)
 gate_value (JoinB x y) h got = VectorShare (share h x + 2 ^ width_at h.plan.gates x * share h y)
 gate_value (AndB x y) h got = VectorShare (conjunction h x y (got 0))
-gate_value (OutB x to) h got = Told (if is_told to h.me then Some (opened_vector h (share h x) (got 0) 0) else None)
+gate_value (OutB x to) h got = Told (if includes to h.me then Some (opened_vector h (share h x) (got 0) 0) else None)
 
 -- what the party has to send at a gate: for each round in order, the payload by receiver
 abbrev pub gate_sends : Kind → Hand → Rounds → List Heard
 gate_sends (InA party k) h got = (λ to. if party == h.me then word_bytes (given_word h to ∷ []) else []) ∷ []
 gate_sends (MulA x y) h got = (λ to. word_bytes (left_word h x ∷ right_word h y ∷ [])) ∷ []
-gate_sends (OutA x receiver) h got = (λ to. if is_told receiver to then word_bytes (share h x ∷ []) else []) ∷ []
+gate_sends (OutA x receiver) h got = (λ to. if includes receiver to then word_bytes (share h x ∷ []) else []) ∷ []
 gate_sends (InB party k at) h got =
     (λ to. if party == h.me then vectors_bytes (width h) (given_vector h to ∷ []) else []) ∷ []
 gate_sends (AndB x y) h got = (λ to. vectors_bytes (width h) (left_vector h x ∷ right_vector h y ∷ [])) ∷ []
 gate_sends (OutB x receiver) h got =
-    (λ to. if is_told receiver to then vectors_bytes (width h) (share h x ∷ []) else []) ∷ []
+    (λ to. if includes receiver to then vectors_bytes (width h) (share h x ∷ []) else []) ∷ []
 gate_sends _ h got = []
 
 -- ---- a whole plan

@@ -3,16 +3,16 @@ use Rattle.std.specs.Prelude.{ℕ, zero, suc, ◌≡◌, ◌<◌, ◌≤◌, ◌
 use Rattle.std.specs.List.{flat_map}
 use Rattle.mot_base.specs.Limits.{session_count}
 use Rattle.share_types.specs.declared.needs.Kind as stock
-use Rattle.share_types.specs.Needs.{count_of}
+use Rattle.share_types.specs.Needs.{count_of, sum_of_needs}
 use Rattle.share_types.specs.Sums.{each}
 use Rattle.message_demux.specs.Slots.{has_high_bits}
 use Rattle.dealer_files.specs.Part.{Part, counts_of}
-use Rattle.gate_plan.specs.Gate.{Kind, Gate, Word, Vector, InB, gives, operands}
-use Rattle.gate_plan.specs.Gate as plan
-use Rattle.gate_plan.specs.Plan.{Gates}
-use Rattle.gate_plan.specs.Needs.{offset, needs_at, sum_of_needs}
-use Rattle.gate_plan.specs.declared.message.Message.{Message}
-use Rattle.gate_plan.specs.Messages.{message, hears, rounds, stages, awaits}
+use Rattle.plan_gates.specs.Gate.{Kind, Gate, Word, Vector, InB, gives, operands}
+use Rattle.plan_gates.specs.Gate as plan
+use Rattle.plan_gates.specs.Plan.{Gates}
+use Rattle.plan_gates.specs.Needs.{offset, needs_at}
+use Rattle.plan_gates.specs.declared.message.Message.{Message}
+use Rattle.plan_gates.specs.Messages.{message, hears, rounds, stages, awaits}
 use Rattle.gate_tasks.specs.Party.{Own, Value, WordShare, VectorShare, Told, Payload, Rounds, Hand, hand, value_at, round_sends}
 use Rattle.gate_tasks.specs.Honest.{Taken, taken_by}
 use Rattle.gate_tasks.specs.declared.value.Value.{Value as ValueInMemory}

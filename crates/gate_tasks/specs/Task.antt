@@ -7,9 +7,9 @@ use Rattle.message_demux.specs.declared.slots.Slot.{Slot}
 use Rattle.message_demux.specs.Slots.{slot_at, listed}
 use Rattle.message_demux.specs.Fit.{Fits}
 use Rattle.message_demux.specs.Kept.{InboxContents}
-use Rattle.gate_plan.specs.Gate.{Gate}
-use Rattle.gate_plan.specs.Plan.{Gates}
-use Rattle.gate_plan.specs.Messages.{message, spec_of, awaits}
+use Rattle.plan_gates.specs.Gate.{Gate}
+use Rattle.plan_gates.specs.Plan.{Gates}
+use Rattle.plan_gates.specs.Messages.{message, spec_of, awaits}
 use Rattle.gate_tasks.specs.Party.{Payload, Hand, Rounds, value_at}
 use Rattle.gate_tasks.specs.Wires.{value_held}
 use Rattle.gate_tasks.specs.Stage.{IsOf, value_of, gate_of, senders, operands_at, outs_of, carried_on, is_last}

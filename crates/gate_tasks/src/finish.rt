@@ -2,9 +2,9 @@
 
 ghost use Rattle.std.specs.Prelude.{◌≡◌, ◌<◌, ◌≤◌, true, false, [], length, Option, Some};
 ghost use Rattle.mot_base.specs.Limits.{most_width};
-ghost use Rattle.gate_plan.specs.Gate as spec;
-ghost use Rattle.gate_plan.specs.Gate.{Given};
-ghost use Rattle.gate_plan.specs.Plan.{IsPlan};
+ghost use Rattle.plan_gates.specs.Gate as spec;
+ghost use Rattle.plan_gates.specs.Gate.{Given};
+ghost use Rattle.plan_gates.specs.Plan.{IsPlan};
 ghost use Rattle.gate_tasks.specs.Party.{WordShare, VectorShare, Told, width};
 ghost use Rattle.gate_tasks.specs.Stage.{Serves, AreOperands, AreAwaited, value_of};
 ghost use Rattle.gate_tasks.specs.ByValue.{kind_in, stand, gives_of, IsGiven, hears_at, is_owned, is_own_word, is_own_vector, value_of_stage, product_of, conjunction_of, is_product, is_conjunction};
@@ -16,7 +16,7 @@ use crate::payload::word_in;
 use crate::value::Value;
 use arithmetic_gmw::{add, add_const, mul_close, mul_const, mul_open, sub};
 use boolean_gmw::{and_close, and_open, xor, xor_const};
-use gate_plan::GateKind;
+use plan_gates::GateKind;
 use mot_base::{MAX_WIDTH, Payload};
 use share_types::Bits;
 
@@ -76,23 +76,13 @@ fn own_vector(env: &StageEnv, wires: &[Value]) -> Bits
 {
     let me = env.own.me;
     match env.plan.gate(env.gate) {
-        GateKind::ConstB { c } => xor_const(me, zero(c.width), c),
+        GateKind::ConstB { c } => xor_const(me, Bits::zeros(c.width), c),
         GateKind::XorB { .. } => xor(vector_at(env, wires, 0), vector_at(env, wires, 1)),
         GateKind::XorConstB { c, .. } => xor_const(me, vector_at(env, wires, 0), c),
         GateKind::SliceB { at, width, .. } => vector_at(env, wires, 0).slice(at, width),
         GateKind::JoinB { .. } => vector_at(env, wires, 0).join(vector_at(env, wires, 1)),
         _ => unreachable!(),
     }
-}
-
-/// The vector of a width that has no bit.
-fn zero(width: u8) -> Bits
-    requires some { 1 ≤ width }
-    requires most { width ≤ most_width }
-    ensures word { result.word ≡ 0 }
-    ensures width { result.width ≡ width }
-{
-    Bits { word: 0, width }
 }
 
 /// The value of a gate at which the party hears something, from the payloads of the gate's round.

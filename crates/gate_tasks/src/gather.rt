@@ -3,8 +3,8 @@
 ghost use Rattle.std.specs.Prelude.{◌≡◌, ◌<◌, ◌++◌, ℕ, length, Some, IfOk, IfSome, OnOk};
 ghost use Rattle.message_demux.specs.Fit.{Fits};
 ghost use Rattle.std.specs.FinMap as map;
-ghost use Rattle.gate_plan.specs.Gate.{kind_of, operands};
-ghost use Rattle.gate_plan.specs.Messages.{awaits};
+ghost use Rattle.plan_gates.specs.Gate.{kind_of, operands};
+ghost use Rattle.plan_gates.specs.Messages.{awaits};
 ghost use Rattle.gate_tasks.specs.Stage.{operands_at};
 ghost use Rattle.gate_tasks.specs.Task.{KeptFit, option_list, held_values, payloads_at, gate_lacking, slot_lacking, lacking};
 
@@ -12,7 +12,7 @@ use crate::own::Env;
 use crate::step::Need;
 use crate::value::Value;
 use crate::wires::Wires;
-use gate_plan::GateKind;
+use plan_gates::GateKind;
 use message_demux::Slot;
 use mot_base::{NoMemory, Party, Payload};
 use std::alloc::Global;

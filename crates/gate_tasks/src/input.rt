@@ -2,8 +2,8 @@
 
 ghost use Rattle.std.specs.Prelude.{◌≡◌, ◌<◌, ◌≤◌, ◌+◌, [], ◌∷◌, length, get_or, IfOk};
 ghost use Rattle.mot_base.specs.Limits.{most_width};
-ghost use Rattle.gate_plan.specs.Gate.{width_at};
-ghost use Rattle.gate_plan.specs.Plan.{IsPlan};
+ghost use Rattle.plan_gates.specs.Gate.{width_at};
+ghost use Rattle.plan_gates.specs.Plan.{IsPlan};
 ghost use Rattle.gate_tasks.specs.Party.{kept_word, kept_vector, given_word, given_vector, width};
 ghost use Rattle.gate_tasks.specs.Payload.{word_bytes, vectors_bytes};
 ghost use Rattle.gate_tasks.specs.Stage.{Serves};

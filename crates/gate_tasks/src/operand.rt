@@ -1,8 +1,8 @@
 //! What a stage takes: the shares of its operands, and the party's parts of the gate's triples.
 
 ghost use Rattle.std.specs.Prelude.{◌≡◌, ◌<◌, ℕ, true, length, slice_get, Some};
-ghost use Rattle.gate_plan.specs.Gate.{Word, Vector, width_at};
-ghost use Rattle.gate_plan.specs.Plan.{IsPlan};
+ghost use Rattle.plan_gates.specs.Gate.{Word, Vector, width_at};
+ghost use Rattle.plan_gates.specs.Plan.{IsPlan};
 ghost use Rattle.gate_tasks.specs.Party.{triple, bits_of, width};
 ghost use Rattle.gate_tasks.specs.Stage.{Serves, AreOperands, operands_of};
 ghost use Rattle.gate_tasks.specs.ByValue.{kind_in, stand, takes_of, keeps_width, is_product, is_conjunction, share_in};

@@ -4,7 +4,7 @@ use crate::value::Value;
 use crate::wires::Wires;
 use circuit_values::Values;
 use dealer_files::DealerPart;
-use gate_plan::Plan;
+use plan_gates::Plan;
 use message_demux::Inbox;
 use mot_base::{Party, Seed};
 use share_types::Needs;

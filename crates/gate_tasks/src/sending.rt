@@ -1,7 +1,7 @@
 //! What a stage sends.
 
 ghost use Rattle.std.specs.Prelude.{◌≡◌, ◌<◌, ℕ, true, length, IfOk};
-ghost use Rattle.gate_plan.specs.Plan.{IsPlan};
+ghost use Rattle.plan_gates.specs.Plan.{IsPlan};
 ghost use Rattle.gate_tasks.specs.Stage.{Serves, AreOperands};
 ghost use Rattle.gate_tasks.specs.ByValue.{kind_in, stand, is_product, is_conjunction, formed_of, opening, opening_of_bits};
 ghost use Rattle.gate_tasks.specs.Sending.{payload_for, HasFor, outs_by};
@@ -11,7 +11,7 @@ use crate::outgoing::{Out, Outs};
 use crate::own::StageEnv;
 use crate::payload::{vector_payload, word_payload};
 use crate::value::Value;
-use gate_plan::GateKind;
+use plan_gates::GateKind;
 use mot_base::{NoMemory, Party, Payload};
 use share_types::Bits;
 use std::alloc::Global;

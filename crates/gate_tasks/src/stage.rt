@@ -2,9 +2,9 @@
 
 ghost use Rattle.std.specs.Prelude.{◌≡◌, ◌<◌, true, false, List, [], length, slice_get, Some, None, option_map, IfOk, IfSome, if◌then◌else◌};
 ghost use Rattle.std.specs.Option.{unwrap_or};
-ghost use Rattle.gate_plan.specs.Plan.{IsPlan};
-ghost use Rattle.gate_plan.specs.Gate.{Gate};
-ghost use Rattle.gate_plan.specs.Messages.{stages, awaits};
+ghost use Rattle.plan_gates.specs.Plan.{IsPlan};
+ghost use Rattle.plan_gates.specs.Gate.{Gate};
+ghost use Rattle.plan_gates.specs.Messages.{stages, awaits};
 ghost use Rattle.gate_tasks.specs.Party as party;
 ghost use Rattle.gate_tasks.specs.Party.{Rounds, width};
 ghost use Rattle.gate_tasks.specs.ByValue.{kind_in, stand, gives_of, IsGiven, hears_at, is_owned, value_of_stage, formed_of, given_of};
@@ -17,7 +17,7 @@ use crate::outgoing::{Carried, Outs};
 use crate::own::StageEnv;
 use crate::sending::{ToSend, formed, outs};
 use crate::value::Value;
-use gate_plan::GateKind;
+use plan_gates::GateKind;
 use mot_base::{NoMemory, Payload};
 use std::alloc::Global;
 

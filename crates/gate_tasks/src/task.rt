@@ -1,8 +1,8 @@
 //! A gate of one party as a task.
 
 ghost use Rattle.std.specs.Prelude.{◌≡◌, ◌<◌, List, Some, None, slice_get, option_map, IfOk, IfSome, IsSome, OnErr};
-ghost use Rattle.gate_plan.specs.Gate.{Gate};
-ghost use Rattle.gate_plan.specs.Messages.{stages, awaits};
+ghost use Rattle.plan_gates.specs.Gate.{Gate};
+ghost use Rattle.plan_gates.specs.Messages.{stages, awaits};
 ghost use Rattle.gate_tasks.specs.Party as party;
 ghost use Rattle.gate_tasks.specs.Party.{Rounds};
 ghost use Rattle.gate_tasks.specs.Stage.{hand_in, operands_at, IsOf, IsStage, Gives, Serves};

@@ -7,13 +7,14 @@ use Rattle.share_types.specs.Sums.{each}
 use Rattle.share_types.specs.declared.sharing.Sharing.{Sharing}
 use Rattle.share_types.specs.declared.sharing.Sharing.TheVariants as sharing
 use Rattle.share_types.specs.declared.sharing.WireType.{WireType}
-use Rattle.circuit_values.specs.declared.receiver.Receiver.TheVariants.{All}
+use Rattle.share_types.specs.declared.receiver.Receiver.TheVariants.{All}
 use Rattle.circuit_values.specs.Table.{Input}
 use Rattle.mixed_circuit.specs.declared.language.Operation.{Operation}
 use Rattle.mixed_circuit.specs.declared.language.Operation.TheVariants.{InputWord, InputBits, ConstWord, ConstBits, Add, Sub, Mul, AddConst, MulConst, Xor, And, Not, Slice, Join, A2Y, A2B, B2Y, Y2B, B2A, Y2A, Output}
 use Rattle.mixed_circuit.specs.declared.operand.Operand.{Operand}
 use Rattle.mixed_circuit.specs.Language.{domain_of, widths_of, is_in, gives, states, is_name_slot, is_owner_slot, is_width_slot}
-use Rattle.mixed_circuit.specs.Circuit.{Circuit, Statement, wire_type, width_of}
+use Rattle.mixed_circuit.specs.Circuit.{Circuit, Statement}
+use Rattle.share_types.specs.Wires.{wire_type, width_of}
 use Rattle.mixed_circuit.specs.Line.{Parts, width_given}
 use Rattle.mixed_circuit.specs.Said.{IsSaid, IsCircuit}
 use Rattle.mixed_circuit.specs.Table.{inputs_of, input_entry, owner_of}
@@ -24,15 +25,16 @@ use Rattle.bristol_reader.specs.Circuit.{output_wires}
 use Rattle.bristol_reader.specs.Table as bristol_table
 use Rattle.bristol_reader.specs.declared.kind.BristolKind.{BristolKind}
 use Rattle.bristol_reader.specs.declared.kind.BristolKind.TheVariants as kind
-use Rattle.gate_plan.specs.Gate as plan
-use Rattle.gate_plan.specs.Gate.{Kind, Gate, InA, InB}
+use Rattle.plan_gates.specs.Gate as plan
+use Rattle.plan_gates.specs.Gate.{Kind, Gate, InA, InB}
 use Rattle.gate_plan.specs.Lowering.{Source, kind_made, source_of, wire_handled, width_handled, all_built, lowered_before}
 use Rattle.gate_plan.specs.Bristol.{bit_gate, input_gates, kind_gates, Wiring, with_bristol, wired_before, output_gates}
 use Rattle.gate_plan.proofs.GatesLemmas.{row_at, gate_kind, gate_at, some_at, next_gate, handled_own}
 use Rattle.gate_tasks.specs.Honest.{Taken, taken_by}
 use Rattle.gate_tasks.specs.Stage.{taken_from}
-use Rattle.local_engine.specs.Inputs.{TakesFrom, MixedPlansTakeInputs, BristolPlansTakeInputs}
-use Rattle.local_engine.proofs.Lists.{at_left, at_right}
+use Rattle.local_run.specs.Inputs.{TakesFrom}
+use Rattle.local_engine.specs.Inputs.{MixedPlansTakeInputs, BristolPlansTakeInputs}
+use Rattle.local_run.proofs.Lists.{at_left, at_right}
 
 -- gates that take no inputs but those of a table
 abbrev TakeOf : List Input → List Gate → Type 0

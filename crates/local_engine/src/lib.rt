@@ -1,25 +1,14 @@
-//! All parties of a run in one process.
+//! Runs of circuits among all parties in one process: those of `local_run`, and what they tell of a circuit in either
+//! language.
 #![tactic(auto)]
 
-mod cargo;
-mod edges;
-mod graph;
-mod inputs;
-mod item;
-mod items;
-mod job;
 mod laws;
-mod loads;
-mod operands;
-mod outputs;
-mod report;
-mod run;
-mod work;
 
-pub use job::LocalJob;
 pub use laws::{
-    bristol_outputs_are_told, bristol_plans_take_inputs, jobs_of_seed_serve,
-    mixed_outputs_are_told, mixed_plans_take_inputs, told_bits_are_those_of_outputs, turns_are_few,
+    bristol_outputs_are_told, bristol_plans_take_inputs, mixed_outputs_are_told,
+    mixed_plans_take_inputs,
 };
-pub use report::PartyReport;
-pub use run::local_turns;
+pub use local_run::{
+    LocalJob, PartyReport, jobs_of_seed_serve, local_turns, told_bits_are_those_of_outputs,
+    turns_are_few,
+};

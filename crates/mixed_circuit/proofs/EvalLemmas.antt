@@ -11,7 +11,8 @@ use Rattle.std.proofs.Math.Nat.{mul-mod_right}
 use Rattle.mot_base.specs.Limits.{most_width}
 use Rattle.share_types.specs.Bits.{once}
 use Rattle.share_types.specs.declared.sharing.WireType.{WireType}
-use Rattle.mixed_circuit.specs.Circuit.{Statement, Shape, width_of}
+use Rattle.mixed_circuit.specs.Circuit.{Statement, Shape}
+use Rattle.share_types.specs.Wires.{width_of}
 use Rattle.mixed_circuit.specs.Table.{inputs_of, input_entry, owner_of}
 use Rattle.mixed_circuit.specs.Wide.{AllWide}
 use Rattle.mixed_circuit.specs.Eval.{number_made, value_made, seen_of, width_given_by, value_of_statement, IsEvaluated, EvaluatesOnce, inputs_taken}

@@ -10,7 +10,8 @@ use Rattle.mixed_circuit.specs.declared.language.Operation.{Operation}
 use Rattle.mixed_circuit.specs.Table.{owner_of}
 use Rattle.mixed_circuit.specs.declared.operand.Operand.{Operand}
 use Rattle.mixed_circuit.specs.Language.{operations, gives, states, is_name_slot, is_owner_slot}
-use Rattle.mixed_circuit.specs.Circuit.{Circuit, Statement, place_of, wire_type, with_statement}
+use Rattle.mixed_circuit.specs.Circuit.{Circuit, Statement, place_of, with_statement}
+use Rattle.share_types.specs.Wires.{wire_type}
 use Rattle.mixed_circuit.specs.Line.{Parts, is_new, operation_of}
 use Rattle.mixed_circuit.specs.Said.{IsSaid, IsCircuit}
 use Rattle.mixed_circuit.specs.Stated.{AreWhole, IsSomeName}

@@ -9,7 +9,8 @@ use Rattle.mixed_circuit.specs.declared.cause.CircuitCause.TheVariants.{BadParty
 use Rattle.mixed_circuit.specs.declared.operand.Operand.{Operand}
 use Rattle.mixed_circuit.specs.Language.{operations, slots_of, domain_of, widths_of, is_in, states, is_letter_slot}
 use Rattle.mot_base.specs.Limits.{most_statements}
-use Rattle.mixed_circuit.specs.Circuit.{Circuit, Statement, place_of, sharing_of, is_shared}
+use Rattle.mixed_circuit.specs.Circuit.{Circuit, Statement, place_of}
+use Rattle.share_types.specs.Wires.{sharing_of, is_shared}
 use Rattle.mixed_circuit.specs.Line.{Parts, no_parts, are_spelled, operation_of, with_words, parts_of, operand_of, operands_of, sharing_given, width_given, statement_of, resolved, said, is_party, is_new, is_letter_of}
 use Rattle.text_lines.specs.Chain.{or_cause, unless}
 use Rattle.mixed_circuit.specs.Stated.{AreWhole}

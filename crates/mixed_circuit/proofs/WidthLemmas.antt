@@ -10,7 +10,8 @@ use Rattle.mixed_circuit.specs.declared.operand.Operand.{Operand}
 use Rattle.mixed_circuit.specs.declared.language.Widths.{Widths}
 use Rattle.mixed_circuit.specs.declared.language.Widths.TheVariants.{Whole, Stated, Alike, Cut, Joined}
 use Rattle.mixed_circuit.specs.Language.{gives, widths_of}
-use Rattle.mixed_circuit.specs.Circuit.{Circuit, Statement, width_of, wire_type, wire_at}
+use Rattle.mixed_circuit.specs.Circuit.{Circuit, Statement, wire_at}
+use Rattle.share_types.specs.Wires.{width_of, wire_type}
 use Rattle.mixed_circuit.specs.Line.{Parts, operands_of, operand_of, width_given}
 use Rattle.mixed_circuit.specs.Said.{IsSaid, IsCircuit}
 use Rattle.std.specs.Option.{unwrap_or}

@@ -5,9 +5,7 @@ use Rattle.mot_base.specs.Limits.{most_width}
 use Rattle.share_types.specs.declared.sharing.Sharing.{Sharing}
 use Rattle.share_types.specs.declared.sharing.Sharing.TheVariants.{A, B, Y}
 use Rattle.share_types.specs.declared.sharing.WireType.{WireType}
-use Rattle.share_types.specs.declared.sharing.WireType.TheVariants as wire
-use Rattle.circuit_values.specs.declared.receiver.Receiver.{Receiver}
-use Rattle.circuit_values.specs.declared.receiver.Receiver.TheVariants.{All, One}
+use Rattle.share_types.specs.Wires.{party_told}
 use Rattle.mixed_circuit.specs.declared.language.Operation.{Operation}
 use Rattle.mixed_circuit.specs.declared.language.Operation.TheVariants.{InputWord, InputBits, ConstWord, ConstBits, Add, Sub, Mul, AddConst, MulConst, Xor, And, Not, Slice, Join, A2Y, A2B, B2Y, Y2B, B2A, Y2A, Output}
 use Rattle.mixed_circuit.specs.declared.form.Form.{Form}
@@ -37,11 +35,6 @@ bare operation sharing operands = record {
   place = 0;
   constant = 0;
 }
-
--- the party that an output is told to, if it is one
-abbrev pub party_told : Receiver → Option ℕ
-party_told All = None
-party_told (One party) = Some party.0
 
 -- the list of all forms
 abbrev pub shape_of : Form → Shape
@@ -86,28 +79,6 @@ pub record Statement : Type 0 where
 pub record Circuit : Type 0 where
   pub parties : ℕ
   pub statements : List Statement
-
--- a value of so many bits that is shared so. A word, which is shared by sum, has 64
-abbrev pub wire_type : Sharing → ℕ → WireType
-wire_type A width = wire.A
-wire_type B width = wire.B width
-wire_type Y width = wire.Y width
-
-abbrev pub sharing_of : WireType → Sharing
-sharing_of wire.A = A
-sharing_of (wire.B width) = B
-sharing_of (wire.Y width) = Y
-
-abbrev pub width_of : WireType → ℕ
-width_of wire.A = most_width
-width_of (wire.B width) = width
-width_of (wire.Y width) = width
-
-abbrev pub is_shared : Sharing → WireType → Bool
-is_shared A wire.A = true
-is_shared B (wire.B width) = true
-is_shared Y (wire.Y width) = true
-is_shared _ _ = false
 
 -- how the value of the statement at a place is shared, if there is one and it has a value
 abbrev pub wire_at : List Statement → ℕ → Option WireType

@@ -8,7 +8,8 @@ use Rattle.circuit_values.specs.Table.{Told}
 use Rattle.mixed_circuit.specs.declared.language.Operation.{Operation}
 use Rattle.mixed_circuit.specs.declared.language.Operation.TheVariants.{InputWord, InputBits, ConstWord, ConstBits, Add, Sub, Mul, AddConst, MulConst, Xor, And, Not, Slice, Join, A2Y, A2B, B2Y, Y2B, B2A, Y2A, Output}
 use Rattle.mixed_circuit.specs.Language.{states, is_told_slot}
-use Rattle.mixed_circuit.specs.Circuit.{Circuit, Statement, Shape, width_of}
+use Rattle.mixed_circuit.specs.Circuit.{Circuit, Statement, Shape}
+use Rattle.share_types.specs.Wires.{width_of}
 use Rattle.mixed_circuit.specs.Table.{owner_of, inputs_of, receiver_of, name_at, width_at, told_value}
 
 -- what the value of a statement is made of: the number of its input, those of its first and its second

@@ -16,7 +16,8 @@ use Rattle.mixed_circuit.specs.declared.cause.CircuitCause.TheVariants.{Word, Ba
 use Rattle.mixed_circuit.specs.declared.operand.Operand.{Operand}
 use Rattle.mixed_circuit.specs.Language.{operations, word_of, slots_of, domain_of, is_in, gives, widths_of}
 use Rattle.mot_base.specs.Limits.{most_statements, most_width}
-use Rattle.mixed_circuit.specs.Circuit.{Circuit, Statement, wire_type, sharing_of, width_of, is_shared, wire_at, place_of}
+use Rattle.mixed_circuit.specs.Circuit.{Circuit, Statement, wire_at, place_of}
+use Rattle.share_types.specs.Wires.{wire_type, sharing_of, width_of, is_shared}
 use Rattle.text_lines.specs.Text.{Text}
 use Rattle.text_lines.specs.Chain.{◌>>=◌, or_cause, unless}
 use Rattle.text_lines.specs.Word.{is_name, number_of}

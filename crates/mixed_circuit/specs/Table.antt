@@ -1,11 +1,12 @@
 -- The inputs and the outputs of a circuit, in the order of their statements.
 use Rattle.std.specs.Prelude.{ℕ, List, [], ◌∷◌, ◌++◌, slice_get, slice_index, Option, Some, None, option_map, if◌then◌else◌}
 use Rattle.std.specs.Option.{unwrap_or}
-use Rattle.circuit_values.specs.declared.receiver.Receiver.{Receiver}
-use Rattle.circuit_values.specs.declared.receiver.Receiver.TheVariants.{All, One}
+use Rattle.share_types.specs.declared.receiver.Receiver.{Receiver}
+use Rattle.share_types.specs.declared.receiver.Receiver.TheVariants.{All, One}
 use Rattle.circuit_values.specs.Table.{Input, Output}
 use Rattle.mixed_circuit.specs.Language.{states, is_owner_slot, is_told_slot}
-use Rattle.mixed_circuit.specs.Circuit.{Circuit, Statement, Shape, width_of, wire_at}
+use Rattle.mixed_circuit.specs.Circuit.{Circuit, Statement, Shape, wire_at}
+use Rattle.share_types.specs.Wires.{width_of}
 use Rattle.text_lines.specs.Text.{Text}
 
 -- the party whose input a statement is, if it is one

@@ -2,7 +2,8 @@
 use Rattle.std.specs.Prelude.{ℕ, ◌≡◌, ◌≤◌, List, Some}
 use Rattle.mot_base.specs.Limits.{most_width}
 use Rattle.share_types.specs.declared.sharing.WireType.{WireType}
-use Rattle.mixed_circuit.specs.Circuit.{Statement, width_of, wire_at}
+use Rattle.mixed_circuit.specs.Circuit.{Statement, wire_at}
+use Rattle.share_types.specs.Wires.{width_of}
 
 -- a value has 1 to 64 bits
 abbrev pub IsWide : WireType → Type 0

@@ -76,7 +76,7 @@ fn width_given(circuit: &Mixed, at: u32) -> u8
     ensures most { result ≤ most_width }
 {
     match circuit.wire(at) {
-        Some(wire) => width_in(wire),
+        Some(wire) => wire.width(),
         None => MAX_WIDTH,
     }
 }
@@ -88,7 +88,7 @@ pub(crate) fn width_at(circuit: &Mixed, at: u32) -> u8
     ensures most { result ≤ most_width }
 {
     match circuit.wire(at) {
-        Some(wire) => width_in(wire),
+        Some(wire) => wire.width(),
         None => 0,
     }
 }

@@ -1,7 +1,7 @@
 ghost use Rattle.std.specs.Prelude.{◌≡◌, ◌==◌, ◌+◌, nat_le, slice_get, true, Some, None, IfSome, if◌then◌else◌};
 ghost use Rattle.std.specs.List.{list_all};
 ghost use Rattle.mot_base.specs.Limits.{most_width};
-ghost use Rattle.mixed_circuit.specs.Circuit.{sharing_of, width_of, is_shared};
+ghost use Rattle.share_types.specs.Wires.{sharing_of, width_of, is_shared};
 ghost use Rattle.mixed_circuit.specs.Line.{sharing_given, alike_width, width_given};
 ghost use Rattle.mixed_circuit.specs.Language.{domain_of, is_in};
 ghost use Rattle.mixed_circuit.specs.Stated.{stated, AreWhole};
@@ -16,25 +16,6 @@ use share_types::{Sharing, WireType};
 pub struct Operand {
     pub at: u32,
     pub wire: WireType,
-}
-
-fn sharing_in(wire: WireType) -> Sharing
-    ensures { result ≡ sharing_of wire }
-{
-    match wire {
-        WireType::A => Sharing::A,
-        WireType::B(_) => Sharing::B,
-        WireType::Y(_) => Sharing::Y,
-    }
-}
-
-pub fn width_in(wire: WireType) -> u8
-    ensures { result ≡ width_of wire }
-{
-    match wire {
-        WireType::A => MAX_WIDTH,
-        WireType::B(width) | WireType::Y(width) => width,
-    }
 }
 
 /// The sharing of a line's letter, or that of the first operand, where the operation takes it and all
@@ -55,7 +36,7 @@ fn sharing_in_domain(domain: Domain, operands: &[Operand]) -> Option<Sharing>
     ensures taken { IfSome result (λ sharing. is_in domain sharing ≡ true) }
 {
     let first = first_of(operands)?;
-    let sharing = sharing_in(first.wire);
+    let sharing = first.wire.sharing();
     if domain.has(sharing) && are_shared_alike(first, operands) {
         Some(sharing)
     } else {
@@ -108,7 +89,7 @@ pub fn width_of_all(widths: Widths, raw: &Raw, operands: &[Operand]) -> Option<u
 fn width_fits(place: u8, width: u8, wire: WireType) -> bool
     ensures { result ≡ nat_le (place + width) (width_of wire) }
 {
-    u16::from(place) + u16::from(width) <= u16::from(width_in(wire))
+    u16::from(place) + u16::from(width) <= u16::from(wire.width())
 }
 
 /// The width of two values joined, which is at most that of a vector.
@@ -116,7 +97,7 @@ fn width_joined(x: WireType, y: WireType) -> Option<u8>
     ensures { result ≡ (if nat_le (width_of x + width_of y) most_width
         then Some (width_of x + width_of y) else None) }
 {
-    let width = u16::from(width_in(x)) + u16::from(width_in(y));
+    let width = u16::from(x.width()) + u16::from(y.width());
     if width <= u16::from(MAX_WIDTH) {
         Some(width as u8)
     } else {
@@ -129,7 +110,7 @@ fn width_alike(operands: &[Operand]) -> Option<u8>
 {
     let first = first_of(operands)?;
     if are_alike_wide(first, operands) {
-        Some(width_in(first.wire))
+        Some(first.wire.width())
     } else {
         None
     }
@@ -140,5 +121,5 @@ fn are_alike_wide(first: Operand, operands: &[Operand]) -> bool
 {
     operands
         .iter()
-        .all(|x| width_in(x.wire) == width_in(first.wire))
+        .all(|x| x.wire.width() == first.wire.width())
 }

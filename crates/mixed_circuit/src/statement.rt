@@ -3,7 +3,8 @@ ghost use Rattle.mot_base.specs.Limits.{most_parties};
 ghost use Rattle.mixed_circuit.specs.Language.{domain_of, is_in, arity_of};
 ghost use Rattle.mixed_circuit.specs.declared.language.Domain.TheVariants.{Vectors};
 ghost use Rattle.mixed_circuit.specs.declared.language.Operation.TheVariants.{InputBits, ConstBits, Xor, And, Not, Slice, Join};
-ghost use Rattle.mixed_circuit.specs.Circuit.{shape_of, party_told, bare, wire_type};
+ghost use Rattle.mixed_circuit.specs.Circuit.{shape_of, bare};
+ghost use Rattle.share_types.specs.Wires.{party_told, wire_type};
 ghost use Rattle.mixed_circuit.specs.Line.{statement_of};
 ghost use Rattle.mixed_circuit.specs.Stated.{stated, AreWhole, shape_stated};
 

@@ -79,7 +79,7 @@ fn push_told(table: &mut OutputTable, circuit: &Mixed, x: u32, to: Receiver) -> 
         } ∷ []) }
 {
     let width = match circuit.wire(x) {
-        Some(wire) => u32::from(width_in(wire)),
+        Some(wire) => u32::from(wire.width()),
         None => 0,
     };
     table.push(circuit.name(x), to, width)

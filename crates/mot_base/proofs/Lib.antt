@@ -1,3 +1,4 @@
 pub mod Shelves
 pub mod Storing
 pub mod Writing
+pub mod Lists

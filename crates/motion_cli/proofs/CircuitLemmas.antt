@@ -10,7 +10,8 @@ use Rattle.cli_words.specs.declared.table.Sharing.TheVariants.{B, Y}
 use Rattle.share_types.specs.declared.sharing.WireType.{WireType}
 use Rattle.circuit_values.specs.Table.{Output}
 use Rattle.mixed_circuit.specs.Circuit as mixed
-use Rattle.mixed_circuit.specs.Circuit.{Statement, width_of, wire_at}
+use Rattle.mixed_circuit.specs.Circuit.{Statement, wire_at}
+use Rattle.share_types.specs.Wires.{width_of}
 use Rattle.mixed_circuit.specs.Language.{states, is_told_slot}
 use Rattle.mixed_circuit.specs.Said.{IsCircuit}
 use Rattle.mixed_circuit.specs.Table.{receiver_of, name_at, width_at, told_value, inputs_of, output_entry, outputs_among, outputs_of}
@@ -20,10 +21,10 @@ use Rattle.bristol_reader.specs.Circuit.{Circuit}
 use Rattle.bristol_reader.specs.Table.{inputs_of as bristol_inputs}
 use Rattle.gate_plan.specs.declared.error.PlanError.{PlanError}
 use Rattle.gate_plan.specs.declared.error.PlanError.TheVariants.{NotBuilt}
-use Rattle.gate_plan.specs.Plan.{Gates}
+use Rattle.plan_gates.specs.Plan.{Gates}
 use Rattle.gate_plan.specs.Lowering.{all_built, lowered}
 use Rattle.gate_plan.specs.Bristol.{are_keys, all_bristol_gates, bristol_lowered}
-use Rattle.local_engine.specs.Inputs.{TakesInputs}
+use Rattle.local_run.specs.Inputs.{TakesInputs}
 use Rattle.local_engine.proofs.Taking.{mixed_plans_take_inputs, bristol_plans_take_inputs}
 use Rattle.motion_cli.specs.Circuits.{sharing_of, is_shared_by_xor}
 

@@ -14,13 +14,13 @@ use Rattle.circuit_values.specs.Table.{asked, joined_bits, AreCut}
 use Rattle.circuit_values.proofs.CutLemmas.{cuts_once}
 use Rattle.circuit_values.proofs.Narrow.{some_at}
 use Rattle.dealer_files.specs.Part.{Part}
-use Rattle.gate_plan.specs.Needs.{all_needs}
+use Rattle.plan_gates.specs.Needs.{all_needs}
 use Rattle.gate_tasks.specs.Party as party
 use Rattle.gate_tasks.specs.Party.{Own, party_value}
 use Rattle.gate_tasks.specs.Joint.{Payloads}
 use Rattle.gate_tasks.proofs.Unique.{one_joint_run}
-use Rattle.local_engine.specs.declared.report.PartyReport.{PartyReport}
-use Rattle.local_engine.specs.Report.{AreReports, IsReport}
+use Rattle.local_run.specs.declared.report.PartyReport.{PartyReport}
+use Rattle.local_run.specs.Report.{AreReports, IsReport}
 use Rattle.text_lines.specs.Text.{Text}
 use Rattle.motion_cli.specs.declared.dealer.PartFault.{PartFault}
 use Rattle.motion_cli.specs.declared.status.Status.TheVariants as status

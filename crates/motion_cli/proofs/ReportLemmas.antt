@@ -13,7 +13,7 @@ use Rattle.circuit_values.specs.Table.{Output, Told, asked, is_asked, AreCut}
 use Rattle.circuit_values.proofs.Narrow.{some_at}
 use Rattle.mixed_circuit.proofs.ListLemmas.{take_next}
 use Rattle.text_lines.specs.Text.{Text}
-use Rattle.local_engine.specs.declared.report.PartyReport.{PartyReport}
+use Rattle.local_run.specs.declared.report.PartyReport.{PartyReport}
 use Rattle.motion_cli.specs.declared.report.Notation.{Notation}
 use Rattle.motion_cli.specs.declared.report.Notation.TheVariants.{Decimal, Hexadecimal}
 use Rattle.motion_cli.specs.Report.{hexadecimal_digits, AreShort, AreNarrow, PartyRun, output_line, output_lines, run_report, runs_report}

@@ -13,7 +13,7 @@ use Rattle.share_types.specs.declared.bits.Bits.{Bits}
 use Rattle.share_types.specs.declared.needs.Kind.{Kind}
 use Rattle.share_types.specs.declared.needs.Kind.TheVariants as kind
 use Rattle.share_types.specs.declared.needs.Needs.{Needs}
-use Rattle.share_types.specs.Needs.{count_of}
+use Rattle.share_types.specs.Needs.{count_of, no_needs}
 use Rattle.circuit_values.specs.Table.{Input, Told, asked, total_width}
 use Rattle.circuit_values.specs.Values.{HaveWidths, ReadsValues}
 use Rattle.cli_words.specs.Request.{LocalRequest}
@@ -22,22 +22,22 @@ use Rattle.dealer_files.specs.Part.{Part, counts_of}
 use Rattle.dealer_files.specs.Honest.{HonestTogether}
 use Rattle.dealer_maker.specs.Draws.{parts_drawn}
 use Rattle.dealer_maker.proofs.Honest.{honest}
-use Rattle.gate_plan.specs.Plan.{Gates, IsPlan}
-use Rattle.gate_plan.specs.Needs.{no_needs, all_needs}
+use Rattle.plan_gates.specs.Plan.{Gates, IsPlan}
+use Rattle.plan_gates.specs.Needs.{all_needs}
 use Rattle.gate_tasks.specs.Party.{Own}
 use Rattle.gate_tasks.specs.declared.own.Own.{Own as OwnInMemory}
 use Rattle.gate_tasks.specs.Joint.{Payloads, IsJoint}
 use Rattle.gate_tasks.specs.Honest.{no_part, AreHonest, AreInputs}
 use Rattle.gate_tasks.proofs.Unique.{one_joint_run}
-use Rattle.local_engine.specs.declared.report.PartyReport.{PartyReport}
-use Rattle.local_engine.specs.Inputs.{TakesInputs}
-use Rattle.local_engine.specs.Job.{IsJob}
-use Rattle.local_engine.specs.Meaning.{owns_with}
-use Rattle.local_engine.specs.OneSeed.{ServeAll, owns_of}
-use Rattle.local_engine.specs.Report as engine
-use Rattle.local_engine.specs.Report.{AreReports, plain_told}
-use Rattle.local_engine.specs.Told.{AreToldInPlain}
-use Rattle.local_engine.proofs.Seeding.{honest_parts_serve, jobs_of_seed_serve, jobs_of_seed_are_honest}
+use Rattle.local_run.specs.declared.report.PartyReport.{PartyReport}
+use Rattle.local_run.specs.Inputs.{TakesInputs}
+use Rattle.local_run.specs.Job.{IsJob}
+use Rattle.local_run.specs.Meaning.{owns_with}
+use Rattle.local_run.specs.OneSeed.{ServeAll, owns_of}
+use Rattle.local_run.specs.Report as engine
+use Rattle.local_run.specs.Report.{AreReports, plain_told}
+use Rattle.local_run.specs.Told.{AreToldInPlain}
+use Rattle.local_run.proofs.Seeding.{honest_parts_serve, jobs_of_seed_serve, jobs_of_seed_are_honest}
 use Rattle.text_lines.specs.Text.{Text}
 use Rattle.motion_cli.specs.declared.dealer.Difference.{Difference}
 use Rattle.motion_cli.specs.declared.dealer.Field.{Field}

@@ -32,15 +32,16 @@ use Rattle.bristol_reader.specs.Eval as bristol_eval
 use Rattle.bristol_reader.proofs.InputLemmas.{flat_count}
 use Rattle.bristol_reader.proofs.TableLemmas.{have_widths}
 use Rattle.bristol_reader.proofs.EvalLemmas as wires
-use Rattle.gate_plan.specs.Gate.{Gate, width_at}
-use Rattle.gate_plan.specs.Plan.{Gates}
-use Rattle.gate_plan.specs.Plain.{plain_before, number_at}
-use Rattle.gate_plan.specs.Messages.{is_told}
-use Rattle.gate_plan.specs.Keeps.{GateTold, told_by, unnamed, plain_numbers, KeepsEvaluation}
+use Rattle.plan_gates.specs.Gate.{Gate, width_at}
+use Rattle.plan_gates.specs.Plan.{Gates}
+use Rattle.plan_gates.specs.Plain.{plain_before, number_at, GateTold, told_by, plain_numbers}
+use Rattle.share_types.specs.Wires.{includes}
+use Rattle.gate_plan.specs.Keeps.{unnamed, KeepsEvaluation}
 use Rattle.gate_plan.specs.Bristol.{told_bits, KeepsBristol}
-use Rattle.local_engine.specs.Report.{told_to}
-use Rattle.local_engine.specs.Told.{bits_of_entries, outputs_to, AreToldInPlain}
-use Rattle.local_engine.proofs.Told.{told_bits_are_those_of_outputs, mixed_outputs_are_told, bristol_outputs_are_told}
+use Rattle.local_run.specs.Report.{told_to}
+use Rattle.local_run.specs.Told.{bits_of_entries, outputs_to, AreToldInPlain}
+use Rattle.local_run.proofs.Told.{told_bits_are_those_of_outputs}
+use Rattle.local_engine.proofs.Told.{mixed_outputs_are_told, bristol_outputs_are_told}
 use Rattle.motion_cli.specs.Report as report
 use Rattle.motion_cli.specs.Circuits.{Circuit, Mixed, InBristol, inputs_of, outputs_of, plan_of, IsWhole, Keeps, IsPlain}
 
@@ -222,7 +223,7 @@ module _ (all : List Statement) (made : List ℕ) (p : ℕ) where
   }
 
   abbrev told_it : List Told → List GateTold
-  told_it ts = filter (λ (e : GateTold). is_told e.to p) (map unnamed ts)
+  told_it ts = filter (λ (e : GateTold). includes e.to p) (map unnamed ts)
 
   one_entry : (s : Statement) (more : List Told) (others : List Output) (b : Bool) →
       length (bits_of_entries (map unnamed more) p) ≡ total_width (asked_by p others) →
@@ -237,7 +238,7 @@ module _ (all : List Statement) (made : List ℕ) (p : ℕ) where
       length (bits_of_entries (map unnamed more) p) ≡ total_width (asked_by p others) →
       length (bits_of_entries (map unnamed (cond b (told_by_it s ∷ []) [] ++ more)) p)
       ≡ total_width (asked_by p (cond b (entry s ∷ []) [] ++ others))
-  one_more s more others true rest = one_entry s more others (is_told (entry s).to p) rest
+  one_more s more others true rest = one_entry s more others (includes (entry s).to p) rest
   one_more s more others false rest = rest
 
   entries_width : (ss : List Statement) →

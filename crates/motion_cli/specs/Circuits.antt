@@ -18,7 +18,7 @@ use Rattle.bristol_reader.specs.Grammar as bristol_text
 use Rattle.bristol_reader.specs.Table as bristol_table
 use Rattle.bristol_reader.specs.Eval as bristol_eval
 use Rattle.bristol_reader.specs.Built as bristol_built
-use Rattle.gate_plan.specs.Plan.{Gates}
+use Rattle.plan_gates.specs.Plan.{Gates}
 use Rattle.gate_plan.specs.Lowering.{all_gates, all_built, lowered}
 use Rattle.gate_plan.specs.Keeps.{KeepsEvaluation}
 use Rattle.gate_plan.specs.Bristol.{are_keys, all_bristol_gates, bristol_lowered, KeepsBristol}

@@ -6,10 +6,11 @@ use Rattle.hex.specs.Hex.{encode_lower}
 use Rattle.mot_base.specs.Limits.{most_width}
 use Rattle.share_types.specs.Bits.{number}
 use Rattle.share_types.specs.declared.needs.Needs.{Needs}
-use Rattle.circuit_values.specs.Table.{Output, Told, is_receiver}
+use Rattle.circuit_values.specs.Table.{Output, Told}
+use Rattle.share_types.specs.Wires.{includes}
 use Rattle.text_lines.specs.Text.{Text}
-use Rattle.gate_plan.specs.Plan.{Gates}
-use Rattle.gate_plan.specs.Needs.{all_needs}
+use Rattle.plan_gates.specs.Plan.{Gates}
+use Rattle.plan_gates.specs.Needs.{all_needs}
 use Rattle.motion_cli.specs.Outcome.{line, line_end}
 use Rattle.motion_cli.specs.declared.report.Notation.{Notation}
 use Rattle.motion_cli.specs.declared.report.Notation.TheVariants.{Decimal, Hexadecimal}
@@ -46,7 +47,7 @@ output_lines notation (output ∷ more) = output_line notation output ++ output_
 
 -- the outputs that a party is told
 abbrev pub told_to : ℕ → List Told → List Told
-told_to party outputs = filter (λ output. is_receiver output.to (record { 0 = party })) outputs
+told_to party outputs = filter (λ output. includes output.to party) outputs
 
 -- what is reported of a party: its number, the outputs that it is told, and the digest of all that it sent
 pub record PartyRun : Type 0 where

@@ -7,10 +7,10 @@ use Rattle.dealer_files.specs.Part.{Part}
 use Rattle.dealer_files.specs.Honest.{HonestTogether}
 use Rattle.gate_tasks.specs.Party.{Own}
 use Rattle.gate_tasks.specs.Joint.{Payloads, IsJoint}
-use Rattle.local_engine.specs.declared.report.PartyReport.{PartyReport}
-use Rattle.local_engine.specs.OneSeed.{owns_of}
-use Rattle.local_engine.specs.Meaning.{owns_with}
-use Rattle.local_engine.specs.Report.{AreReports}
+use Rattle.local_run.specs.declared.report.PartyReport.{PartyReport}
+use Rattle.local_run.specs.OneSeed.{owns_of}
+use Rattle.local_run.specs.Meaning.{owns_with}
+use Rattle.local_run.specs.Report.{AreReports}
 use Rattle.text_lines.specs.Text.{Text}
 use Rattle.motion_cli.specs.Circuits.{Circuit, inputs_of, outputs_of, parties_of, plan_of, IsPlain}
 use Rattle.motion_cli.specs.Report.{PartyRun, told_to}

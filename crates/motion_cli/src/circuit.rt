@@ -9,7 +9,7 @@ ghost use Rattle.mixed_circuit.specs.Table as mixed_table;
 ghost use Rattle.motion_cli.specs.Circuits.{InBristol, circuit_of, Reads, FirstFault, IsFirstFault, inputs_of, outputs_of, parties_of, IsWhole, sharing_of, gates_of, is_built, plan_of, Keeps, IsPlain, notation_of};
 ghost use Rattle.gate_plan.specs.Keeps.{KeepsEvaluation};
 ghost use Rattle.gate_plan.specs.Lowering.{all_gates, all_built, lowered};
-ghost use Rattle.local_engine.specs.Inputs.{TakesInputs};
+ghost use Rattle.local_run.specs.Inputs.{TakesInputs};
 ghost use Rattle.motion_cli.specs.Report.{AreShort, AreNarrow};
 
 use crate::report::Notation;

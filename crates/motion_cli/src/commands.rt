@@ -6,7 +6,7 @@ ghost use Rattle.mot_base.specs.Limits.{most_file_bytes};
 ghost use Rattle.circuit_values.specs.declared.cause.ValuesCause.{ValuesCause};
 ghost use Rattle.circuit_values.specs.Values.{ReadsValues, HaveWidths};
 ghost use Rattle.circuit_values.specs.Values as values;
-ghost use Rattle.local_engine.specs.Inputs.{TakesInputs};
+ghost use Rattle.local_run.specs.Inputs.{TakesInputs};
 ghost use Rattle.motion_cli.specs.declared.circuit.CircuitFault.{CircuitFault};
 ghost use Rattle.motion_cli.specs.Circuits as any;
 ghost use Rattle.motion_cli.specs.Circuits.{circuit_of, notation_of, Reads, FirstFault, inputs_of, plan_of, Keeps};

@@ -5,7 +5,7 @@ ghost use Rattle.mot_base.specs.Faults.{Rose};
 ghost use Rattle.mot_base.specs.Limits.{most_parties};
 ghost use Rattle.share_types.specs.declared.needs.Kind.{Kind};
 ghost use Rattle.share_types.specs.Needs.{count_of, IsFirstShort};
-ghost use Rattle.gate_plan.specs.Needs.{all_needs};
+ghost use Rattle.plan_gates.specs.Needs.{all_needs};
 ghost use Rattle.motion_cli.specs.Circuits as any;
 ghost use Rattle.motion_cli.specs.Circuits.{Circuit, parties_of};
 ghost use Rattle.motion_cli.specs.Dealer.{part_names, differs, count_difference, difference, Holds, Shows, AreRead, stock_of, shortage, AreTaken, IsUntaken, IsDealerFault};

@@ -2,8 +2,8 @@
 
 ghost use Rattle.std.specs.Prelude.{◌≡◌, ◌<◌, ◌≤◌, ◌+◌, true, length, slice_get, Some};
 ghost use Rattle.std.specs.Option.{option_copied};
-ghost use Rattle.gate_plan.specs.Gate.{Gate, width_at};
-ghost use Rattle.gate_plan.specs.Needs.{offset};
+ghost use Rattle.plan_gates.specs.Gate.{Gate, width_at};
+ghost use Rattle.plan_gates.specs.Needs.{offset};
 ghost use Rattle.gate_tasks.specs.Stage.{Serves, IsOf};
 ghost use Rattle.gate_tasks.specs.Task.{HoldTypes};
 

@@ -1,6 +1,6 @@
 use Rattle.std.proofs.Common.{◌≡◌, ◌<◌, ℕ, Some}
 use Rattle.std.specs.Prelude.{slice_get}
-use Rattle.gate_plan.specs.Gate.{Gate}
+use Rattle.plan_gates.specs.Gate.{Gate}
 use Rattle.gate_tasks.specs.Stage.{HasInput}
 use Rattle.engine_tests.proofs.conditions.has_inputs.Given as goal
 

@@ -1,5 +1,5 @@
 use Rattle.std.proofs.Common.{◌<◌, length, arith}
-use Rattle.local_engine.proofs.Serving.{serves, read_there}
+use Rattle.local_run.proofs.Serving.{serves, read_there}
 use Rattle.engine_tests.proofs.stages.first_stage.Goals as goal
 
 pub run_stage-requires-clause-serves : goal.run_stage-requires-clause-serves

@@ -1,6 +1,6 @@
 use Rattle.std.proofs.Common.{◌≡◌, take}
 use Rattle.gate_plan.specs.Bristol.{input_gates}
-use Rattle.gate_plan.proofs.PlanLemmas.{fields}
+use Rattle.plan_gates.proofs.PlanLemmas.{fields}
 use Rattle.gate_plan.proofs.expand.input_plan.Given as goal
 
 abbrev pub invariant-loop-k : goal.invariant-loop-k

@@ -1,5 +1,5 @@
 use Rattle.std.proofs.Common.{◌≡◌, false, length, sym, subst}
-use Rattle.gate_plan.specs.Plan.{Gates}
+use Rattle.plan_gates.specs.Plan.{Gates}
 use Rattle.gate_plan.specs.Bristol.{KeepsBristol, all_bristol_gates, bristol_lowered}
 use Rattle.gate_plan.proofs.BristolPlanLemmas.{length_lowered}
 use Rattle.gate_plan.proofs.BristolKeepsLemmas.{keeps_bristol}

@@ -1,6 +1,6 @@
 use Rattle.std.proofs.Common.{refl, sym, subst}
-use Rattle.gate_plan.specs.Gate.{Kind}
-use Rattle.gate_plan.specs.Plan.{IsGate}
+use Rattle.plan_gates.specs.Gate.{Kind}
+use Rattle.plan_gates.specs.Plan.{IsGate}
 use Rattle.gate_plan.specs.Bristol.{bit_gate}
 use Rattle.gate_plan.proofs.BristolCodeLemmas.{row_room, ands_valid}
 use Rattle.gate_plan.proofs.expand.with_ands.Goals as goal

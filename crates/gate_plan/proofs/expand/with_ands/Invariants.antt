@@ -1,6 +1,6 @@
 use Rattle.std.proofs.Common.{◌≡◌, ◌+◌}
 use Rattle.share_types.specs.Sums.{each}
-use Rattle.gate_plan.specs.Gate.{AndB}
+use Rattle.plan_gates.specs.Gate.{AndB}
 use Rattle.gate_plan.specs.Bristol.{bit_gate}
 use Rattle.gate_plan.specs.Wired.{with_gates, gate_in}
 use Rattle.gate_plan.proofs.expand.with_ands.Given as goal

@@ -1,6 +1,6 @@
 use Rattle.std.proofs.Common.{◌≡◌}
 use Rattle.share_types.specs.Sums.{each}
-use Rattle.gate_plan.specs.Gate.{InB}
+use Rattle.plan_gates.specs.Gate.{InB}
 use Rattle.gate_plan.specs.Bristol.{bit_gate}
 use Rattle.gate_plan.specs.Wired.{with_gates}
 use Rattle.gate_plan.proofs.expand.with_value.Given as goal

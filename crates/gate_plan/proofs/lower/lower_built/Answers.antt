@@ -3,7 +3,7 @@ use Rattle.mixed_circuit.specs.Circuit.{shape_of}
 use Rattle.mixed_circuit.specs.Table.{inputs_of}
 use Rattle.mixed_circuit.specs.Eval.{inputs_taken}
 use Rattle.mixed_circuit.proofs.EvalLemmas.{some_statement, inputs_next}
-use Rattle.gate_plan.specs.Plan.{Gates}
+use Rattle.plan_gates.specs.Plan.{Gates}
 use Rattle.gate_plan.specs.Lowering.{lowered_to}
 use Rattle.gate_plan.specs.Keeps.{KeepsEvaluation}
 use Rattle.gate_plan.proofs.KeepsLemmas.{keeps_evaluation}

@@ -1,9 +1,10 @@
 use Rattle.std.proofs.Common.{suc, ◌≡◌, ◌+◌, List, length, sym, ◌∙◌, ap, ap₂, subst, arith}
 use Rattle.std.specs.Prelude.{IfOk}
-use Rattle.mixed_circuit.specs.Circuit.{Shape, shape_of, width_of}
+use Rattle.mixed_circuit.specs.Circuit.{Shape, shape_of}
+use Rattle.share_types.specs.Wires.{width_of}
 use Rattle.mixed_circuit.specs.declared.language.Operation.TheVariants.{ConstBits}
-use Rattle.gate_plan.specs.Gate.{Gate}
-use Rattle.gate_plan.specs.Plan.{Gates, IsGate, with_gate}
+use Rattle.plan_gates.specs.Gate.{Gate}
+use Rattle.plan_gates.specs.Plan.{Gates, IsGate, with_gate}
 use Rattle.gate_plan.specs.Lowering.{wire_handled, lowered_to}
 use Rattle.gate_plan.proofs.GatesLemmas.{some_at, gate_at, next_gate, count}
 use Rattle.gate_plan.proofs.StepLemmas.{handled, gate_valid, code_gate, constant_width, of_here, shape_here}

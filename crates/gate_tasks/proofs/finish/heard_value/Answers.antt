@@ -1,7 +1,7 @@
 use Rattle.std.proofs.Common.{◌≡◌, ◌<◌, ◌≤◌, ◌+◌, ◌*◌, ◌^◌, length, refl, subst, sym, ◌∙◌, ap, ap₂, arith, cond, [], get_or}
 use Rattle.std.specs.Prelude.{All, ◌==◌}
 use Rattle.message_demux.specs.Slots.{vector_bytes}
-use Rattle.gate_plan.specs.Gate.{InA, InB, OutA, OutB, width_at}
+use Rattle.plan_gates.specs.Gate.{InA, InB, OutA, OutB, width_at}
 use Rattle.mot_base.specs.Limits.{most_width}
 use Rattle.gate_tasks.specs.Party.{Payload, WordShare, VectorShare, kept_word, kept_vector, width}
 use Rattle.gate_tasks.specs.Payload.{word_in, vector_in}

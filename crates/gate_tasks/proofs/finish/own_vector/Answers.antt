@@ -1,7 +1,7 @@
 use Rattle.std.proofs.Common.{◌≤◌, ap, subst, arith}
 use Rattle.std.specs.Prelude.{slice_get}
 use Rattle.gate_tasks.specs.Stage.{operands_of}
-use Rattle.gate_plan.specs.Gate.{SliceB, JoinB}
+use Rattle.plan_gates.specs.Gate.{SliceB, JoinB}
 use Rattle.gate_tasks.proofs.Operands.{fits_at, wide_at, its_width}
 use Rattle.gate_tasks.proofs.finish.own_vector.Goals as goal
 

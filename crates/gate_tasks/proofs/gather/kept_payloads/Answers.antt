@@ -1,8 +1,8 @@
 use Rattle.std.proofs.Common.{ℕ, List, ◌≡◌, true, ◌++◌, sym, ◌∙◌, ap}
 use Rattle.std.specs.Prelude.{is_some}
 use Rattle.std.specs.FinMap as map
-use Rattle.gate_plan.specs.declared.message.Message.{Message}
-use Rattle.gate_plan.specs.Messages.{message}
+use Rattle.plan_gates.specs.declared.message.Message.{Message}
+use Rattle.plan_gates.specs.Messages.{message}
 use Rattle.gate_tasks.specs.Party.{Payload}
 use Rattle.gate_tasks.specs.Task.{option_list, slot_from}
 use Rattle.gate_tasks.proofs.Gathered.{gathered_more, mapped_some, fit_more}

@@ -1,7 +1,7 @@
 use Rattle.std.proofs.Common.{◌≡◌, filter}
 use Rattle.std.specs.Prelude.{is_some}
 use Rattle.share_types.specs.Sums.{each}
-use Rattle.gate_plan.specs.Messages.{message}
+use Rattle.plan_gates.specs.Messages.{message}
 use Rattle.gate_tasks.specs.Task.{KeptFit, kept_payloads as payloads_kept}
 use Rattle.gate_tasks.proofs.gather.kept_payloads.Given as goal
 

@@ -1,7 +1,7 @@
 use Rattle.std.proofs.Common.{◌≡◌, None, filter}
 use Rattle.std.specs.Prelude.{is_some}
 use Rattle.share_types.specs.Sums.{each}
-use Rattle.gate_plan.specs.Messages.{message}
+use Rattle.plan_gates.specs.Messages.{message}
 use Rattle.gate_tasks.specs.Task.{party_lacking}
 use Rattle.gate_tasks.proofs.gather.slot_lacking.Given as goal
 

@@ -6,7 +6,7 @@ use Rattle.share_types.specs.Bits.{number}
 use Rattle.share_types.specs.Sums.{xor_to}
 use Rattle.share_types.specs.declared.bits.Bits.{Bits}
 use Rattle.share_types.proofs.BitsLemmas.{number-cut}
-use Rattle.gate_plan.specs.Gate.{width_at}
+use Rattle.plan_gates.specs.Gate.{width_at}
 use Rattle.gate_tasks.specs.Payload.{vectors_bytes}
 use Rattle.gate_tasks.specs.Party.{given_vector}
 use Rattle.gate_tasks.specs.ByValue.{stand}

@@ -1,5 +1,5 @@
 use Rattle.std.proofs.Common.{◌≡◌, ◌≤◌, subst, ap, arith}
-use Rattle.gate_plan.specs.Needs.{offset}
+use Rattle.plan_gates.specs.Needs.{offset}
 use Rattle.mot_base.specs.Limits.{most_width}
 use Rattle.gate_tasks.proofs.Operands.{has_bits, its_width}
 use Rattle.gate_tasks.proofs.operand.bit_triple.Goals as goal

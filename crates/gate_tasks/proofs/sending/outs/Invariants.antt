@@ -1,7 +1,7 @@
 use Rattle.std.proofs.Common.{◌≡◌, map, filter}
 use Rattle.std.specs.Prelude.{is_some}
 use Rattle.share_types.specs.Sums.{each}
-use Rattle.gate_plan.specs.Messages.{message}
+use Rattle.plan_gates.specs.Messages.{message}
 use Rattle.gate_tasks.specs.Sending.{out_by, payload_for}
 use Rattle.gate_tasks.proofs.sending.outs.Given as goal
 

@@ -1,6 +1,6 @@
 use Rattle.std.proofs.Common.{refl, sym, ◌∙◌, ap, arith}
 use Rattle.std.proofs.lemmas.Bool.{eqb-true}
-use Rattle.gate_plan.specs.Gate.{InA, InB}
+use Rattle.plan_gates.specs.Gate.{InA, InB}
 use Rattle.gate_tasks.specs.ByValue.{is_owned}
 use Rattle.gate_tasks.proofs.Operands.{input_there, word_given}
 use Rattle.gate_tasks.proofs.stage.input_stage.Goals as goal

@@ -2,7 +2,7 @@ use Rattle.std.proofs.Common.{◌≡◌, ◌⊎◌, List, [], ◌∷◌, map, ta
 use Rattle.std.proofs.lemmas.List.{map-append}
 use Rattle.mot_base.specs.Faults.{Rose}
 use Rattle.share_types.proofs.Parties.{length-each}
-use Rattle.gate_plan.proofs.NeedsLemmas.{slice_get-each}
+use Rattle.plan_gates.proofs.NeedsLemmas.{slice_get-each}
 use Rattle.text_lines.specs.Text.{Text}
 use Rattle.motion_cli.specs.Dealer.{part_names}
 use Rattle.motion_cli.specs.Outcome.{memory}

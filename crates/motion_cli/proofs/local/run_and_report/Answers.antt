@@ -3,8 +3,8 @@ use Rattle.std.specs.Prelude.{string_bytes}
 use Rattle.std.proofs.lemmas.Result.{IfOk-weaker}
 use Rattle.mot_base.specs.Limits.{most_parties}
 use Rattle.gate_tasks.specs.Party.{Own}
-use Rattle.local_engine.specs.Meaning.{owns_with}
-use Rattle.local_engine.specs.OneSeed.{owns_of}
+use Rattle.local_run.specs.Meaning.{owns_with}
+use Rattle.local_run.specs.OneSeed.{owns_of}
 use Rattle.motion_cli.specs.Circuits.{circuit_of, inputs_of, parties_of}
 use Rattle.motion_cli.proofs.TakenLemmas.{plan_parties, job_served, reports_count, all_widths, run_reported}
 use Rattle.motion_cli.proofs.local.run_and_report.Goals as goal

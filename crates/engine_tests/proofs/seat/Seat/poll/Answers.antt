@@ -1,7 +1,7 @@
 use Rattle.std.proofs.Common.{◌≡◌, ◌<◌, ℕ, length, subst, arith}
 use Rattle.gate_tasks.specs.Task.{ExpectsAll}
 use Rattle.gate_tasks.proofs.Grown.{there_is}
-use Rattle.local_engine.proofs.Serving.{serves, read_there}
+use Rattle.local_run.proofs.Serving.{serves, read_there}
 use Rattle.engine_tests.proofs.seat.Seat.poll.Goals as goal
 
 pub polled-requires-clause-serves : goal.polled-requires-clause-serves

@@ -1,5 +1,5 @@
 use Rattle.std.proofs.Common.{List, None, ◌≡◌, sym, ◌∙◌, ap, subst}
-use Rattle.gate_plan.specs.Messages.{awaits}
+use Rattle.plan_gates.specs.Messages.{awaits}
 use Rattle.gate_tasks.specs.Party.{Payload}
 use Rattle.gate_tasks.specs.Stage.{AreOperands, AreAwaited}
 use Rattle.gate_tasks.specs.Task.{lacking, HoldTypes, ExpectsAll, Task, payloads_at}

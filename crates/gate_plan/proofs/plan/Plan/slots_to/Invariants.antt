@@ -1,6 +1,0 @@
-use Rattle.std.proofs.Common.{◌≡◌}
-use Rattle.gate_plan.proofs.SlotLemmas.{slots_before}
-use Rattle.gate_plan.proofs.plan.Plan.slots_to.Given as goal
-
-abbrev pub invariant-loop-sender : goal.invariant-loop-sender
-invariant-loop-sender l = l.slots.items ≡ slots_before l.self l.receiver.0 l.sender

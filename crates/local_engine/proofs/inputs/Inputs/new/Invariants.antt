@@ -1,8 +1,0 @@
-use Rattle.std.proofs.Common.{take}
-use Rattle.local_engine.proofs.Sorting.{IsSorted, AreLeft}
-use Rattle.local_engine.proofs.inputs.Inputs.new.Given as goal
-
-abbrev pub invariant-loop-at : goal.invariant-loop-at
-invariant-loop-at l =
-    IsSorted l.wires l.carried l.payloads.items (take l.at l.fn.inputs.items)
-    × AreLeft l.at l.fn.inputs.items l.inputs.items

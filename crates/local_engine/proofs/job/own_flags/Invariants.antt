@@ -1,6 +1,0 @@
-use Rattle.std.proofs.Common.{◌≡◌, take}
-use Rattle.local_engine.specs.OneSeed.{own_flags}
-use Rattle.local_engine.proofs.job.own_flags.Given as goal
-
-abbrev pub invariant-loop-at : goal.invariant-loop-at
-invariant-loop-at l = l.flags.items ≡ own_flags (take l.at l.inputs) l.party.0

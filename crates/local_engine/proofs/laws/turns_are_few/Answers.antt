@@ -1,5 +1,0 @@
-use Rattle.local_engine.proofs.Turning.{turns_are_few}
-use Rattle.local_engine.proofs.laws.turns_are_few.Goals as goal
-
-pub returns : goal.returns
-returns c = turns_are_few

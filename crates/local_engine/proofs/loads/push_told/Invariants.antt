@@ -1,8 +1,0 @@
-use Rattle.std.proofs.Common.{◌≡◌, ◌++◌, map}
-use Rattle.local_engine.specs.declared.item.Load.TheVariants.{Wire}
-use Rattle.local_engine.specs.Loads.{told_gates}
-use Rattle.local_engine.proofs.loads.push_told.Given as goal
-
-abbrev pub invariant-loop-gate : goal.invariant-loop-gate
-invariant-loop-gate l =
-    l.loads.items ≡ l.initial.loads.items ++ map (λ g. Wire g l.party) (told_gates l.plan l.party.0 l.gate)

@@ -1,0 +1,20 @@
+pub mod Lists
+pub mod Numbers
+pub mod Valid
+pub mod Blocks
+pub mod Few
+mod Forward
+pub mod Sorting
+pub mod Giving
+pub mod Ranges
+pub mod Staging
+pub mod Sending
+pub mod Leaving
+pub mod Shaping
+pub mod Serving
+pub mod Turns
+pub mod Lines
+pub mod Plainly
+pub mod Told
+pub mod Seeding
+pub mod Turning

@@ -1,0 +1,162 @@
+-- What edges carry is given by items of the plan.
+use Rattle.std.proofs.Common.{◌≡◌, ℕ, zero, suc, ◌-◌, ◌<◌, ◌≤◌, ◌⊎◌, Bool, true, false, cond, eqb, List, [], ◌∷◌, ◌++◌, length, take, map, Option, Some, None, refl, sym, ap, subst, arith, inl, inr, length-take}
+use Rattle.std.specs.Prelude.{slice_get, option_map, is_some}
+use Rattle.std.specs.List.{AllByRecursion}
+use Rattle.std.proofs.lemmas.Option.{slice_get_within}
+use Rattle.std.proofs.lemmas.List.Elements.{filter-append}
+use Rattle.share_types.specs.Sums.{each}
+use Rattle.mot_base.specs.declared.Party.{Party}
+use Rattle.plan_gates.specs.Gate.{Gate, operands, takes}
+use Rattle.plan_gates.specs.Plan.{Gates, IsPlan, IsOperand}
+use Rattle.plan_gates.specs.Messages.{hears, stages, message}
+use Rattle.plan_gates.proofs.MessageLemmas.{heard_is}
+use Rattle.gate_tasks.specs.Stage.{operands_of, operands_at}
+use Rattle.local_run.specs.declared.item.Item.{Item}
+use Rattle.local_run.specs.declared.item.Load.TheVariants.{Wire, Message}
+use Rattle.local_run.specs.Items.{item, listeners, items_of, items_before, all_items, IsItem}
+use Rattle.local_run.specs.Loads.{party, wires_to, heard_by, loads_to, told_gates, sent_at, sent_before, report_loads, reports_loads, IsGiven}
+use Rattle.gate_tasks.proofs.Grown.{some_is}
+use Rattle.local_run.proofs.Lists.{passing}
+
+-- ---- facts of all elements
+
+pub all_append : {X : Type 0} (P : X → Type 0) (xs ys : List X) → AllByRecursion P xs → AllByRecursion P ys → AllByRecursion P (xs ++ ys)
+all_append P [] ys f g = g
+all_append P (x ∷ xs) ys f g = (f.0, all_append P xs ys f.1 g)
+
+pub all_map : {X Y : Type 0} (P : Y → Type 0) (f : X → Y) (Q : X → Type 0) → ((x : X) → Q x → P (f x)) → (xs : List X) → AllByRecursion Q xs → AllByRecursion P (map f xs)
+all_map P f Q more [] all = tt
+all_map P f Q more (x ∷ xs) all = (more x all.0, all_map P f Q more xs all.1)
+
+pub all_at : {X : Type 0} (P : X → Type 0) (xs : List X) (k : ℕ) (x : X) → AllByRecursion P xs → slice_get xs k ≡ Some x → P x
+all_at P [] k x all there = cc
+all_at P (y ∷ xs) zero x all there = subst P (some_is y x there) all.0
+all_at P (y ∷ xs) (suc k) x all there = all_at P xs k x all.1 there
+
+pub all_more : {X : Type 0} (P Q : X → Type 0) → ((x : X) → P x → Q x) → (xs : List X) → AllByRecursion P xs → AllByRecursion Q xs
+all_more P Q more [] all = tt
+all_more P Q more (x ∷ xs) all = (more x all.0, all_more P Q more xs all.1)
+
+-- the first numbers are below their count, and those that pass a test pass it
+pub record Passes (test : ℕ → Bool) (n p : ℕ) : Type 0 where
+  pub below : p < n
+  pub passes : test p ≡ true
+
+one_passes : (test : ℕ → Bool) (n : ℕ) (b : Bool) → test n ≡ b → AllByRecursion (Passes test (suc n)) (cond b (n ∷ []) [])
+one_passes test n true is = (record { below = omega arith; passes = is }, tt)
+one_passes test n false is = tt
+
+pub all_passing : (test : ℕ → Bool) (n : ℕ) → AllByRecursion (Passes test n) (passing test n)
+all_passing test zero = tt
+all_passing test (suc n) =
+    let wider = all_more (Passes test n) (Passes test (suc n)) (λ p is. let less = is.below in record { below = omega arith; passes = is.passes }) (passing test n) (all_passing test n) in
+    subst (λ (xs : List ℕ). AllByRecursion (Passes test (suc n)) xs) (sym (filter-append test (each n (λ p. p)) (n ∷ [])))
+    (all_append (Passes test (suc n)) (passing test n) (cond (test n) (n ∷ []) []) wider (one_passes test n (test n) refl))
+
+pub all_each : {X : Type 0} (P : X → Type 0) (n : ℕ) (f : ℕ → X) → ((p : ℕ) → p < n → P (f p)) → AllByRecursion P (each n f)
+all_each P zero f is = tt
+all_each P (suc n) f is =
+    all_append P (each n f) (f n ∷ []) (all_each P n f (λ p less. is p (omega (arith, less)))) (is n (omega arith), tt)
+
+-- ---- items
+
+items_of_are : (plan : Gates) (g : ℕ) → g < length plan.gates → AllByRecursion (IsItem plan) (items_of plan g)
+items_of_are plan g known =
+    all_append (IsItem plan) (each plan.parties (item g 0)) (map (item g 1) (listeners plan g plan.parties))
+    (all_each (IsItem plan) plan.parties (item g 0) (λ p less. record { gate = known; party = less; stage = inl refl }))
+    (all_map (IsItem plan) (item g 1) (Passes (λ p. hears plan p g 0) plan.parties)
+    (λ p is. record { gate = known; party = is.below; stage = inr (refl, is.passes) })
+    (listeners plan g plan.parties) (all_passing (λ p. hears plan p g 0) plan.parties))
+
+items_before_are : (plan : Gates) (n : ℕ) → n ≤ length plan.gates → AllByRecursion (IsItem plan) (items_before plan n)
+items_before_are plan zero within = tt
+items_before_are plan (suc n) within =
+    all_append (IsItem plan) (items_before plan n) (items_of plan n) (items_before_are plan n (omega (arith, within))) (items_of_are plan n (omega (arith, within)))
+
+pub items_are : (plan : Gates) → AllByRecursion (IsItem plan) (all_items plan)
+items_are plan = items_before_are plan (length plan.gates) (omega arith)
+
+pub item_is : (plan : Gates) (k : ℕ) (i : Item) → slice_get (all_items plan) k ≡ Some i → IsItem plan i
+item_is plan k i there = all_at (IsItem plan) (all_items plan) k i (items_are plan) there
+
+-- ---- what flows into them
+
+-- the last stage of a party at a gate
+pub last_is : (plan : Gates) (p g : ℕ) (b : Bool) → hears plan p g 0 ≡ b → stages plan p g - 1 ≡ cond b 1 0
+last_is plan p g true heard = let long = ap (λ (rounds : List ℕ). length rounds) (heard_is plan p g true heard) in omega (arith, long)
+last_is plan p g false heard = let long = ap (λ (rounds : List ℕ). length rounds) (heard_is plan p g false heard) in omega (arith, long)
+
+last_stage : (plan : Gates) (p g : ℕ) (b : Bool) → hears plan p g 0 ≡ b → (stages plan p g - 1 ≡ 0) ⊎ ((stages plan p g - 1 ≡ 1) × (hears plan p g 0 ≡ true))
+last_stage plan p g true heard = inr (last_is plan p g true heard, heard)
+last_stage plan p g false heard = inl (last_is plan p g false heard)
+
+pub wire_given : (plan : Gates) (g : ℕ) (p : Party) → g < length plan.gates → p.0 < plan.parties → IsGiven plan (Wire g p)
+wire_given plan g p known member = record { gate = known; party = member; stage = last_stage plan p.0 g (hears plan p.0 g 0) refl }
+
+-- operands stand before their gate
+abbrev pub AreBefore : ℕ → List ℕ → Type 0
+AreBefore g xs = AllByRecursion (λ x. x < g) xs
+
+operands_before : (plan : Gates) (g : ℕ) (o : Option Gate) → slice_get plan.gates g ≡ o → IsPlan plan → AreBefore g (operands_of (option_map (λ gate. gate.kind) o))
+operands_before plan g None there is = tt
+operands_before plan g (Some gate) there is =
+    all_more (IsOperand (take g plan.gates) (takes gate.kind)) (λ x. x < g)
+    (λ x operand. let within = slice_get_within (take g plan.gates) x operand.0 operand.1 in omega (arith, within, length-take g plan.gates))
+    (operands gate.kind) (is.each g gate there).uses
+
+pub operands_are_before : (plan : Gates) (g : ℕ) → IsPlan plan → AreBefore g (operands_at plan.gates g)
+operands_are_before plan g is = operands_before plan g (slice_get plan.gates g) refl is
+
+wires_given : (plan : Gates) (g : ℕ) (p : Party) → IsPlan plan → g < length plan.gates → p.0 < plan.parties → AllByRecursion (IsGiven plan) (wires_to plan g p)
+wires_given plan g p is known member =
+    all_map (IsGiven plan) (λ x. Wire x p) (λ x. x < g) (λ x less. wire_given plan x p (omega (arith, less, known)) member) (operands_at plan.gates g) (operands_are_before plan g is)
+
+message_given : (plan : Gates) (g : ℕ) (from to : Party) → g < length plan.gates → from.0 < plan.parties → IsGiven plan (Message g from to)
+message_given plan g from to known member = record { gate = known; party = member; stage = inl refl }
+
+heard_given : (plan : Gates) (g : ℕ) (p : Party) → g < length plan.gates → p.0 < plan.parties → AllByRecursion (IsGiven plan) (heard_by plan g p)
+heard_given plan g p known member = (
+  record { gate = known; party = member; stage = inl refl },
+  all_map (IsGiven plan) (λ from. Message g (party from) p) (Passes (λ from. is_some (message plan from p.0 g 0)) plan.parties)
+      (λ from is. message_given plan g (party from) p known is.below)
+      (passing (λ from. is_some (message plan from p.0 g 0)) plan.parties) (all_passing (λ from. is_some (message plan from p.0 g 0)) plan.parties),
+)
+
+stage_given : (plan : Gates) (i : Item) (b : Bool) → IsItem plan i → AllByRecursion (IsGiven plan) (cond b [] (heard_by plan i.gate i.party))
+stage_given plan i true is = tt
+stage_given plan i false is = heard_given plan i.gate i.party is.gate is.party
+
+pub loads_given : (plan : Gates) (i : Item) → IsPlan plan → IsItem plan i → AllByRecursion (IsGiven plan) (loads_to plan i)
+loads_given plan i plan_is is =
+    all_append (IsGiven plan) (wires_to plan i.gate i.party) (cond (eqb i.stage 0) [] (heard_by plan i.gate i.party))
+    (wires_given plan i.gate i.party plan_is is.gate is.party) (stage_given plan i (eqb i.stage 0) is)
+
+-- ---- what the reports need
+
+told_given : (plan : Gates) (p : Party) → p.0 < plan.parties → AllByRecursion (IsGiven plan) (map (λ g. Wire g p) (told_gates plan p.0 (length plan.gates)))
+told_given plan p member =
+    all_map (IsGiven plan) (λ g. Wire g p) (Passes _ (length plan.gates)) (λ g is. wire_given plan g p is.below member)
+    (told_gates plan p.0 (length plan.gates)) (all_passing _ (length plan.gates))
+
+sent_at_given : (plan : Gates) (p : Party) (g : ℕ) → g < length plan.gates → p.0 < plan.parties → AllByRecursion (IsGiven plan) (sent_at plan p g)
+sent_at_given plan p g known member =
+    all_map (IsGiven plan) (λ to. Message g p (party to)) (Passes _ plan.parties) (λ to is. message_given plan g p (party to) known member)
+    (passing _ plan.parties) (all_passing (λ to. is_some (message plan p.0 to g 0)) plan.parties)
+
+sent_given : (plan : Gates) (p : Party) (n : ℕ) → n ≤ length plan.gates → p.0 < plan.parties → AllByRecursion (IsGiven plan) (sent_before plan p n)
+sent_given plan p zero within member = tt
+sent_given plan p (suc n) within member =
+    all_append (IsGiven plan) (sent_before plan p n) (sent_at plan p n) (sent_given plan p n (omega (arith, within)) member) (sent_at_given plan p n (omega (arith, within)) member)
+
+report_given : (plan : Gates) (p : Party) → p.0 < plan.parties → AllByRecursion (IsGiven plan) (report_loads plan p)
+report_given plan p member =
+    all_append (IsGiven plan) (map (λ g. Wire g p) (told_gates plan p.0 (length plan.gates))) (sent_before plan p (length plan.gates))
+    (told_given plan p member) (sent_given plan p (length plan.gates) (omega arith) member)
+
+reports_before_given : (plan : Gates) (n : ℕ) → n ≤ plan.parties → AllByRecursion (IsGiven plan) (reports_loads plan n)
+reports_before_given plan zero within = tt
+reports_before_given plan (suc n) within =
+    all_append (IsGiven plan) (reports_loads plan n) (report_loads plan (party n)) (reports_before_given plan n (omega (arith, within))) (report_given plan (party n) (omega (arith, within)))
+
+pub reports_given : (plan : Gates) → AllByRecursion (IsGiven plan) (reports_loads plan plan.parties)
+reports_given plan = reports_before_given plan plan.parties (omega arith)

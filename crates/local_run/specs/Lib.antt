@@ -1,0 +1,12 @@
+pub mod Items
+pub mod Loads
+pub mod Cargo
+pub mod Meaning
+pub mod Job
+pub mod Running
+pub mod Operands
+pub mod Report
+pub mod Told
+pub mod Inputs
+pub mod OneSeed
+pub mod Turns

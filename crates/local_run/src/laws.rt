@@ -1,0 +1,22 @@
+ghost use Rattle.local_run.specs.OneSeed.{HonestPartsServe, JobsOfSeedAreHonest, JobsOfSeedServe};
+ghost use Rattle.local_run.specs.Told.{ToldBitsAreThoseOfOutputs};
+ghost use Rattle.local_run.specs.Turns.{TurnsAreFew};
+
+/// The bits that the gates of a plan tell a party are those that its output gates tell that party, joined in order.
+pub fn told_bits_are_those_of_outputs()
+    ensures { ToldBitsAreThoseOfOutputs }
+{}
+
+/// Where a plan takes its inputs, a run from one seed is a job with parts that serve all parties, and honest where
+/// the parts are. Honest parts with records enough serve all.
+pub fn jobs_of_seed_serve()
+    ensures serve { JobsOfSeedServe }
+    ensures honest { JobsOfSeedAreHonest }
+    ensures parts { HonestPartsServe }
+{}
+
+/// A run of all parties has at most as many items as each party has gates and payloads that are sent to it,
+/// together.
+pub fn turns_are_few()
+    ensures { TurnsAreFew }
+{}

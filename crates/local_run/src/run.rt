@@ -1,0 +1,49 @@
+//! All parties on one thread.
+
+ghost use Rattle.std.specs.Prelude.{◌≡◌, ℕ, List, Some, map, slice_get, IfOk};
+ghost use Rattle.share_types.specs.declared.needs.Needs.{Needs};
+ghost use Rattle.gate_tasks.specs.Joint.{Payloads, IsJoint};
+ghost use Rattle.gate_tasks.specs.Honest.{AreHonest, AreInputs};
+ghost use Rattle.local_run.specs.declared.report.PartyReport as spec;
+ghost use Rattle.local_run.specs.Job.{IsJob};
+ghost use Rattle.local_run.specs.Meaning.{owns_with};
+ghost use Rattle.local_run.specs.Report.{AreReports, plain_told};
+
+use crate::graph::RunGraph;
+use crate::job::LocalJob;
+use crate::report::{PartyReport, reports};
+use crate::work::LocalWork;
+use dealer_files::DealerPart;
+use mot_base::NoMemory;
+use std::alloc::Global;
+use task_pool::run_turns;
+
+/// Runs all parties of a job, each with its part of a deal, one stage after another, and gives their reports in the order
+/// of the parties. They are those of the joint run, and where the parts are honest, each party is told what the plan
+/// computes in plain.
+pub fn local_turns(
+    alloc: Global,
+    job: &LocalJob,
+    parts: &[DealerPart],
+) -> Result<Vec<PartyReport>, NoMemory>
+    requires { IsJob job.now.plan job.now.owns.items parts.now }
+    ensures joint { let owns = owns_with job.now.owns.items parts.now in
+        IfOk result (λ reports. (table : Payloads) → IsJoint job.now.plan owns table →
+        AreReports job.now.plan owns table reports.items) }
+    ensures plain { let owns = owns_with job.now.owns.items parts.now in
+        IfOk result (λ reports. (bases : Needs) (session : ℕ) (inputs : List ℕ) →
+        AreHonest job.now.plan owns bases session → AreInputs job.now.plan owns inputs →
+        (p : ℕ) (report : spec.PartyReport) → slice_get reports.items p ≡ Some report →
+        map (λ bits. bits.word) report.told ≡ plain_told job.now.plan inputs p) }
+{
+    let _parties = job.plan.parties();
+    let graph = RunGraph::new(alloc, &job.plan)?;
+    let work = LocalWork {
+        job,
+        parts,
+        graph: &graph,
+    };
+    let ends = run_turns(alloc, &graph.dag, &work)?;
+    let reports = reports(alloc, &job.plan, &ends)?;
+    Ok(reports)
+}

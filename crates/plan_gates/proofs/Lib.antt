@@ -1,0 +1,4 @@
+pub mod NeedsLemmas
+pub mod PlanLemmas
+pub mod MessageLemmas
+pub mod SlotLemmas

@@ -1,0 +1,125 @@
+-- Gates of a plan: what each does, and how wide its value is.
+use Rattle.std.specs.Prelude.{ℕ, List, [], ◌∷◌, Option, Some, None, slice_get, option_map}
+use Rattle.std.specs.Option.{unwrap_or}
+use Rattle.share_types.specs.declared.receiver.Receiver.{Receiver}
+use Rattle.share_types.specs.Wires.{party_told}
+use Rattle.plan_gates.specs.declared.gate.GateKind.{GateKind}
+use Rattle.plan_gates.specs.declared.gate.GateKind.TheVariants as code
+
+-- what a gate does. x and y are the numbers of earlier gates, k that of an input of the circuit
+pub data Kind : Type 0 where
+  InA : (party k : ℕ) → Kind
+  ConstA : (c : ℕ) → Kind
+  AddA : (x y : ℕ) → Kind
+  SubA : (x y : ℕ) → Kind
+  AddConstA : (x c : ℕ) → Kind
+  MulConstA : (x c : ℕ) → Kind
+  MulA : (x y : ℕ) → Kind
+  OutA : (x : ℕ) (to : Receiver) → Kind
+  InB : (party k at : ℕ) → Kind
+  ConstB : (c : ℕ) → Kind
+  XorB : (x y : ℕ) → Kind
+  XorConstB : (x c : ℕ) → Kind
+  SliceB : (x at : ℕ) → Kind
+  JoinB : (x y : ℕ) → Kind
+  AndB : (x y : ℕ) → Kind
+  OutB : (x : ℕ) (to : Receiver) → Kind
+
+-- a gate: what it does, and the width of its value. An output gate has the width of its operand
+pub record Gate : Type 0 where
+  pub kind : Kind
+  pub width : ℕ
+
+-- the list of all kinds
+abbrev pub kind_of : GateKind → Kind
+kind_of (code.InA party k) = InA party.0 k
+kind_of (code.ConstA c) = ConstA c
+kind_of (code.AddA x y) = AddA x y
+kind_of (code.SubA x y) = SubA x y
+kind_of (code.AddConstA x c) = AddConstA x c
+kind_of (code.MulConstA x c) = MulConstA x c
+kind_of (code.MulA x y) = MulA x y
+kind_of (code.OutA x to) = OutA x to
+kind_of (code.InB party k at width) = InB party.0 k at
+kind_of (code.ConstB c) = ConstB c.word
+kind_of (code.XorB x y) = XorB x y
+kind_of (code.XorConstB x c) = XorConstB x c.word
+kind_of (code.SliceB x at width) = SliceB x at
+kind_of (code.JoinB x y) = JoinB x y
+kind_of (code.AndB x y) = AndB x y
+kind_of (code.OutB x to) = OutB x to
+
+-- the width that a kind states, if it states one
+abbrev pub stated_width : GateKind → Option ℕ
+stated_width (code.InB party k at width) = Some width
+stated_width (code.ConstB c) = Some c.width
+stated_width (code.XorConstB x c) = Some c.width
+stated_width (code.SliceB x at width) = Some width
+stated_width _ = None
+
+-- what a gate gives: a word that is shared by sum, a vector that is shared by XOR, or a number that is told
+pub data Given : Type 0 where
+  Word : Given
+  Vector : Given
+  Told : Given
+
+abbrev pub gives : Kind → Given
+gives (InA party k) = Word
+gives (ConstA c) = Word
+gives (AddA x y) = Word
+gives (SubA x y) = Word
+gives (AddConstA x c) = Word
+gives (MulConstA x c) = Word
+gives (MulA x y) = Word
+gives (OutA x to) = Told
+gives (OutB x to) = Told
+gives _ = Vector
+
+-- what each operand of a gate is
+abbrev pub takes : Kind → Given
+takes (OutA x to) = Word
+takes (OutB x to) = Vector
+takes kind = gives kind
+
+-- the operands of a gate, in order
+abbrev pub operands : Kind → List ℕ
+operands (AddA x y) = x ∷ y ∷ []
+operands (SubA x y) = x ∷ y ∷ []
+operands (AddConstA x c) = x ∷ []
+operands (MulConstA x c) = x ∷ []
+operands (MulA x y) = x ∷ y ∷ []
+operands (OutA x to) = x ∷ []
+operands (XorB x y) = x ∷ y ∷ []
+operands (XorConstB x c) = x ∷ []
+operands (SliceB x at) = x ∷ []
+operands (JoinB x y) = x ∷ y ∷ []
+operands (AndB x y) = x ∷ y ∷ []
+operands (OutB x to) = x ∷ []
+operands _ = []
+
+-- the party that a gate names: whose input it is, or who alone is told
+abbrev pub party_of : Kind → Option ℕ
+party_of (InA party k) = Some party
+party_of (InB party k at) = Some party
+party_of (OutA x to) = party_told to
+party_of (OutB x to) = party_told to
+party_of _ = None
+
+-- who is told the value of a gate, if it is an output
+abbrev pub receiver_of : Kind → Option Receiver
+receiver_of (OutA x to) = Some to
+receiver_of (OutB x to) = Some to
+receiver_of _ = None
+
+-- the number that a gate states to be used with its operand or as its value
+abbrev pub constant_of : Kind → ℕ
+constant_of (ConstA c) = c
+constant_of (AddConstA x c) = c
+constant_of (MulConstA x c) = c
+constant_of (ConstB c) = c
+constant_of (XorConstB x c) = c
+constant_of _ = 0
+
+-- the width of the value of the gate at a place, and 0 where there is none
+abbrev pub width_at : List Gate → ℕ → ℕ
+width_at gates x = unwrap_or (option_map (λ gate. gate.width) (slice_get gates x)) 0

@@ -1,0 +1,5 @@
+pub mod Gate
+pub mod Messages
+pub mod Needs
+pub mod Plain
+pub mod Plan

@@ -1,0 +1,85 @@
+-- What a plan computes in plain: one number for each gate.
+use Rattle.std.specs.Prelude.{ℕ, zero, suc, ◌+◌, ◌*◌, ◌/◌, ◌%◌, ◌^◌, Bool, List, [], ◌∷◌, ◌++◌, length, slice_get, slice_index, Option, Some, None, bit_and, bit_xor}
+use Rattle.share_types.specs.declared.receiver.Receiver.{Receiver}
+use Rattle.share_types.specs.Bits.{bits}
+use Rattle.share_types.specs.Sums.{word_difference}
+use Rattle.plan_gates.specs.Gate.{Kind, Gate, InA, ConstA, AddA, SubA, AddConstA, MulConstA, MulA, OutA, InB, ConstB, XorB, XorConstB, SliceB, JoinB, AndB, OutB, operands, receiver_of, width_at}
+use Rattle.plan_gates.specs.Plan.{Gates}
+
+-- what the number of a gate is made of: the numbers of the circuit's inputs, those of its first and its second operand,
+-- and the width of the first
+pub record Seen : Type 0 where
+  pub inputs : List ℕ
+  pub x : ℕ
+  pub y : ℕ
+  pub low : ℕ
+
+-- the number of a gate, before it is cut to the gate's width
+abbrev pub number_of : Kind → Seen → ℕ
+number_of (InA party k) v = slice_index v.inputs k
+number_of (ConstA c) v = c
+number_of (AddA x y) v = v.x + v.y
+number_of (SubA x y) v = word_difference v.x v.y
+number_of (AddConstA x c) v = v.x + c
+number_of (MulConstA x c) v = v.x * c
+number_of (MulA x y) v = v.x * v.y
+number_of (OutA x to) v = v.x
+number_of (InB party k at) v = slice_index v.inputs k / 2 ^ at
+number_of (ConstB c) v = c
+number_of (XorB x y) v = bit_xor v.x v.y
+number_of (XorConstB x c) v = bit_xor v.x c
+number_of (SliceB x at) v = v.x / 2 ^ at
+number_of (JoinB x y) v = v.x + 2 ^ v.low * v.y
+number_of (AndB x y) v = bit_and v.x v.y
+number_of (OutB x to) v = v.x
+
+-- the number of the gate at the place of an operand, if there is one
+abbrev pub operand_number : List ℕ → Option ℕ → ℕ
+operand_number before None = 0
+operand_number before (Some x) = slice_index before x
+
+abbrev pub operand_width : List Gate → Option ℕ → ℕ
+operand_width gates None = 0
+operand_width gates (Some x) = width_at gates x
+
+abbrev pub seen_of : List Gate → List ℕ → List ℕ → Kind → Seen
+seen_of gates inputs before kind = record {
+  inputs = inputs;
+  x = operand_number before (slice_get (operands kind) 0);
+  y = operand_number before (slice_get (operands kind) 1);
+  low = operand_width gates (slice_get (operands kind) 0);
+}
+
+-- the number of a gate, from those of the gates before it
+abbrev pub gate_number : List Gate → List ℕ → List ℕ → Gate → ℕ
+gate_number gates inputs before gate = number_of gate.kind (seen_of gates inputs before gate.kind) % 2 ^ gate.width
+
+abbrev pub number_at : List Gate → List ℕ → List ℕ → Option Gate → ℕ
+number_at gates inputs before None = 0
+number_at gates inputs before (Some gate) = gate_number gates inputs before gate
+
+-- the numbers of the gates before a place
+abbrev pub plain_before : List Gate → List ℕ → ℕ → List ℕ
+plain_before gates inputs zero = []
+plain_before gates inputs (suc g) =
+    plain_before gates inputs g
+    ++ number_at gates inputs (plain_before gates inputs g) (slice_get gates g) ∷ []
+
+-- the numbers of all gates of a plan, on the numbers of the circuit's inputs
+abbrev pub plain_numbers : Gates → List ℕ → List ℕ
+plain_numbers plan inputs = plain_before plan.gates inputs (length plan.gates)
+
+-- what an output gate tells: who is told, and the bits
+pub record GateTold : Type 0 where
+  pub to : Receiver
+  pub bits : List Bool
+
+abbrev pub told_entry : ℕ → ℕ → Option Receiver → List GateTold
+told_entry width number None = []
+told_entry width number (Some to) = record { to = to; bits = bits width number } ∷ []
+
+-- what the gates tell whose numbers these are, in their order
+abbrev pub told_by : List Gate → List ℕ → List GateTold
+told_by [] numbers = []
+told_by (gate ∷ gates) [] = []
+told_by (gate ∷ gates) (n ∷ numbers) = told_entry gate.width n (receiver_of gate.kind) ++ told_by gates numbers

@@ -1,0 +1,14 @@
+//! Plans: what each gate does, what it needs, which messages it has, and what a plan computes in plain.
+#![tactic(auto)]
+
+mod gate;
+mod laws;
+mod message;
+mod needs;
+mod plan;
+mod slots;
+
+pub use gate::GateKind;
+pub use laws::records_never_meet;
+pub use message_demux::{Shape, SlotSpec};
+pub use plan::Plan;

@@ -1,0 +1,83 @@
+ghost use Rattle.std.specs.Prelude.{◌≡◌, ◌≤◌, None, length, slice_get};
+ghost use Rattle.std.specs.Option.{unwrap_or};
+ghost use Rattle.mot_base.specs.Limits.{most_width};
+ghost use Rattle.plan_gates.specs.Gate.{kind_of, receiver_of};
+ghost use Rattle.plan_gates.specs.Messages.{words, vectors, messages_of, tells_by};
+
+use crate::gate::GateKind;
+use message_demux::Shape;
+use mot_base::Party;
+use share_types::Receiver;
+
+/// A payload that one party sends another: its length in bytes, and how they are to be read.
+#[derive(Clone, Copy, Debug)]
+pub struct Message {
+    pub len: u32,
+    pub shape: Shape,
+}
+
+/// So many words of 8 bytes.
+fn words(count: u8) -> Message
+    ensures { result ≡ words count }
+{
+    Message {
+        len: 8 * u32::from(count),
+        shape: Shape::Words,
+    }
+}
+
+/// So many vectors of a width.
+fn vectors(count: u8, width: u8) -> Message
+    ensures { result ≡ vectors count width }
+{
+    Message {
+        len: u32::from(count) * u32::from(width).div_ceil(8),
+        shape: Shape::Vectors { count, width },
+    }
+}
+
+/// Who is told the value of a gate, if it is an output.
+pub fn receiver_of(kind: GateKind) -> Option<Receiver>
+    ensures { result ≡ receiver_of (kind_of kind) }
+{
+    match kind {
+        GateKind::OutA { to, .. } | GateKind::OutB { to, .. } => Some(to),
+        _ => None,
+    }
+}
+
+/// Whether a gate tells its value to a party.
+pub fn tells(kind: GateKind, party: Party) -> bool
+    ensures { result ≡ tells_by party.0 (receiver_of (kind_of kind)) }
+{
+    match receiver_of(kind) {
+        Some(receiver) => receiver.includes(party),
+        None => false,
+    }
+}
+
+/// What one party sends another in a round of a gate of a width, if it sends something.
+pub fn message_in(kind: GateKind, width: u8, from: Party, to: Party, round: u8) -> Option<Message>
+    ensures { result ≡ unwrap_or (slice_get (messages_of (kind_of kind) width from.0 to.0) round) None }
+{
+    if round == 0 {
+        first_message(kind, width, from, to)
+    } else {
+        None
+    }
+}
+
+/// What one party sends another in the one round of a gate of a width, if it sends something.
+fn first_message(kind: GateKind, width: u8, from: Party, to: Party) -> Option<Message>
+    ensures { result ≡ unwrap_or (slice_get (messages_of (kind_of kind) width from.0 to.0) 0) None }
+{
+    match kind {
+        GateKind::InA { party, .. } if from == party => Some(words(1)),
+        GateKind::MulA { .. } => Some(words(2)),
+        GateKind::OutA { to: receiver, .. } if receiver.includes(to) => Some(words(1)),
+        GateKind::InB { party, .. } if from == party => Some(vectors(1, width)),
+        GateKind::AndB { .. } => Some(vectors(2, width)),
+        GateKind::OutB { to: receiver, .. } if receiver.includes(to) => Some(vectors(1, width)),
+        _ => None,
+    }
+}

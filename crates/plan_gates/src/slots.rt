@@ -1,0 +1,119 @@
+ghost use Rattle.std.specs.Prelude.{◌≡◌, ◌<◌, ◌≤◌, length, option_map, IfOk, OnOk};
+ghost use Rattle.plan_gates.specs.Messages.{message, hears, stages, awaits, outputs_of, AreSlotsTo};
+
+use crate::message::{Message, message_in, tells};
+use crate::plan::Plan;
+use message_demux::SlotSpec;
+use mot_base::{NoMemory, Party};
+use std::alloc::Global;
+
+impl Plan {
+    /// The length in bytes of what one party sends another in a round of a gate, and none exactly where it sends
+    /// nothing.
+    pub fn slot(&self, sender: Party, receiver: Party, gate: u32, round: u8) -> Option<u32>
+        requires { gate < length self.now.gates }
+        ensures { result ≡ option_map (λ m. m.len) (message self.now sender.0 receiver.0 gate round) }
+    {
+        let message = self.message(sender, receiver, gate, round)?;
+        Some(message.len)
+    }
+
+    /// The message of a slot, if there is one.
+    fn message(&self, from: Party, to: Party, gate: u32, round: u8) -> Option<Message>
+        requires { gate < length self.now.gates }
+        ensures { result ≡ message self.now from.0 to.0 gate round }
+    {
+        if from.0 < self.parties() && to.0 < self.parties() && from != to {
+            message_in(self.gate(gate), self.width(gate), from, to, round)
+        } else {
+            None
+        }
+    }
+
+    /// Whether some party sends this one a message in a round of a gate.
+    fn hears(&self, party: Party, gate: u32, round: u8) -> bool
+        requires { gate < length self.now.gates }
+        ensures { result ≡ hears self.now party.0 gate round }
+    {
+        for from in 0..self.parties() {
+            if self.message(Party(from), party, gate, round).is_some() {
+                return true;
+            }
+        }
+        false
+    }
+
+    /// How many stages a gate has at a party: one that waits for no message, and one for each round in which the party
+    /// receives.
+    pub fn stages(&self, party: Party, gate: u32) -> u8
+        requires { gate < length self.now.gates }
+        ensures { result ≡ stages self.now party.0 gate }
+    {
+        if self.hears(party, gate, 0) { 2 } else { 1 }
+    }
+
+    /// The round whose messages a stage of a gate waits for at a party. Stage 0 waits for none.
+    pub fn awaits(&self, party: Party, gate: u32, stage: u8) -> Option<u8>
+        requires { gate < length self.now.gates }
+        ensures { result ≡ awaits self.now party.0 gate stage }
+    {
+        if stage == 1 && self.hears(party, gate, 0) {
+            Some(0)
+        } else {
+            None
+        }
+    }
+
+    /// How many output gates tell a party, or all.
+    pub fn outputs_of(&self, party: Party) -> u32
+        ensures { result ≡ outputs_of self.now party.0 }
+    {
+        let mut count = 0;
+        for gate in 0..self.gates() {
+            if tells(self.gate(gate), party) {
+                count += 1;
+            }
+        }
+        count
+    }
+
+    /// All messages to a party, in the order of their senders, gates and rounds.
+    pub fn slots_to(&self, alloc: Global, receiver: Party) -> Result<Vec<SlotSpec>, NoMemory>
+        ensures { IfOk result (λ slots. AreSlotsTo self.now receiver.0 slots.items) }
+    {
+        let mut slots = Vec::new(alloc);
+        for sender in 0..self.parties() {
+            self.push_slots(&mut slots, Party(sender), receiver)?;
+        }
+        Ok(slots)
+    }
+}
+
+impl Plan {
+    ghost use Rattle.std.specs.Prelude.{◌≡◌, ◌≤◌, ◌+◌, ◌++◌, length, OnOk};
+    ghost use Rattle.plan_gates.specs.Messages.{slots_from};
+
+    /// Adds all messages of one party to another at the end.
+    fn push_slots(
+        &self,
+        slots: &mut Vec<SlotSpec>,
+        sender: Party,
+        receiver: Party,
+    ) -> Result<(), NoMemory>
+        ensures { OnOk result (slots.new.items
+            ≡ slots.old.items ++ slots_from self.now sender.0 receiver.0 (length self.now.gates)) }
+    {
+        for gate in 0..self.gates() {
+            if let Some(message) = self.message(sender, receiver, gate, 0) {
+                slots.push(SlotSpec {
+                    from: sender,
+                    gate,
+                    round: 0,
+                    len: message.len,
+                    shape: message.shape,
+                })?;
+            }
+        }
+        Ok(())
+    }
+}
