@@ -7,8 +7,8 @@ use Rattle.std.proofs.lemmas.List.{append_cancel_left, drop_more, drop_all, drop
 use Rattle.std.proofs.lemmas.List.Sums.{sum_by-cons}
 use Rattle.share_types.specs.declared.receiver.Receiver.{Receiver}
 use Rattle.share_types.specs.declared.receiver.Receiver.TheVariants.{All}
-use Rattle.circuit_values.specs.Table.{Input, Output, Told, AreNamedApart, AreCut}
-use Rattle.circuit_values.specs.Values.{HaveWidths}
+use Rattle.circuit_tables.specs.Table.{Input, Output, Told, AreNamedApart, AreCut}
+use Rattle.circuit_tables.specs.Values.{HaveWidths}
 use Rattle.bristol_reader.specs.Circuit.{Circuit}
 use Rattle.bristol_reader.specs.Table.{input_name, output_name, inputs_from, outputs_from, HaveInputWidths}
 use Rattle.bristol_reader.specs.Cut.{cut_from}

@@ -1,7 +1,7 @@
 -- Output values, cut from the bits of the last wires one after another.
 use Rattle.std.specs.Prelude.{ℕ, ◌+◌, Bool, List, [], ◌∷◌, take, drop}
 use Rattle.share_types.specs.declared.receiver.Receiver.TheVariants.{All}
-use Rattle.circuit_values.specs.Table.{Told}
+use Rattle.circuit_tables.specs.Table.{Told}
 use Rattle.bristol_reader.specs.Table.{output_name}
 
 -- values of these widths, the first of which stands at a place, from the bits that are left

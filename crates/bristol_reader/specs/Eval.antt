@@ -1,7 +1,7 @@
 -- The plain evaluation of a circuit: a bit for each wire.
 use Rattle.std.specs.Prelude.{ℕ, ◌≡◌, ◌<◌, ◌-◌, ◌==◌, Bool, false, List, length, take, drop, slice_get, slice_index, slice_index_or, sum, Some, if◌then◌else◌}
 use Rattle.std.specs.List.{flat_map}
-use Rattle.circuit_values.specs.Table.{Told, AreCut}
+use Rattle.circuit_tables.specs.Table.{Told, AreCut}
 use Rattle.bristol_reader.specs.Kinds.{is_constant, output_bit}
 use Rattle.bristol_reader.specs.Circuit.{Gate, Circuit}
 use Rattle.bristol_reader.specs.Built.{IsCircuit}

@@ -2,7 +2,7 @@
 use Rattle.std.specs.Prelude.{ℕ, ◌≡◌, ◌+◌, ◌%◌, Bool, List, [], ◌∷◌, ◌++◌, length, map, codes}
 use Rattle.std.specs.Fmt.{decimal}
 use Rattle.share_types.specs.declared.receiver.Receiver.TheVariants.{All}
-use Rattle.circuit_values.specs.Table.{Input, Output}
+use Rattle.circuit_tables.specs.Table.{Input, Output}
 use Rattle.bristol_reader.specs.Circuit.{Circuit}
 use Rattle.text_lines.specs.Text.{Text}
 

@@ -11,7 +11,7 @@ ghost use Rattle.bristol_reader.specs.Stored.{a_gate, reads_none_of};
 
 use crate::circuit::Bristol;
 use crate::kind::BristolKind;
-use circuit_values::Values;
+use circuit_tables::Values;
 use mot_base::NoMemory;
 use std::alloc::Global;
 

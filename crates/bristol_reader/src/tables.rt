@@ -1,11 +1,11 @@
 ghost use Rattle.std.specs.Prelude.{◌≡◌, ◌≤◌, Bool, List, None, IfOk};
 ghost use Rattle.mot_base.specs.Limits.{least_parties, most_parties};
-ghost use Rattle.circuit_values.specs.Table.{AreNamedApart};
-ghost use Rattle.circuit_values.specs.Values.{HaveWidths};
+ghost use Rattle.circuit_tables.specs.Table.{AreNamedApart};
+ghost use Rattle.circuit_tables.specs.Values.{HaveWidths};
 ghost use Rattle.bristol_reader.specs.Table.{inputs_of, outputs_of, HaveInputWidths};
 
 use crate::circuit::Bristol;
-use circuit_values::{InputTable, OutputTable, Receiver};
+use circuit_tables::{InputTable, OutputTable, Receiver};
 use mot_base::{NoMemory, Party};
 use std::alloc::Global;
 

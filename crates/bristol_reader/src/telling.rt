@@ -1,12 +1,12 @@
 ghost use Rattle.std.specs.Prelude.{◌≡◌, ◌-◌, length, drop, sum, IfOk};
-ghost use Rattle.circuit_values.specs.Table.{AreCut};
+ghost use Rattle.circuit_tables.specs.Table.{AreCut};
 ghost use Rattle.bristol_reader.specs.Table.{HaveInputWidths, outputs_of};
 ghost use Rattle.bristol_reader.specs.Eval.{output_bits, IsPlain};
 ghost use Rattle.bristol_reader.specs.Cut.{cut_from};
 
 use crate::circuit::Bristol;
 use crate::evaluate::wire_bits;
-use circuit_values::{Outputs, Receiver, Values};
+use circuit_tables::{Outputs, Receiver, Values};
 use mot_base::NoMemory;
 use std::alloc::Global;
 

@@ -6,8 +6,9 @@ use Rattle.std.specs.Str.{bytes_eq}
 use Rattle.std.proofs.lemmas.List.{length-take-le}
 use Rattle.std.proofs.lemmas.Slice.Eq.{bytes_eq-Decides}
 use Rattle.mot_base.specs.declared.Party.{Party}
-use Rattle.circuit_values.specs.Table.{Input, AreNamedApart}
-use Rattle.circuit_values.specs.Values.{is_owned, place_asked}
+use Rattle.circuit_tables.specs.Table.{Input, AreNamedApart}
+use Rattle.circuit_values.specs.Values.{place_asked}
+use Rattle.circuit_tables.specs.Values.{is_owned}
 use Rattle.text_lines.proofs.WordLemmas.{both_true}
 use Rattle.text_lines.specs.Text.{Text}
 

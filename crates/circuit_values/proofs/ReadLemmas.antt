@@ -5,8 +5,9 @@ use Rattle.std.specs.Option.{unwrap_or}
 use Rattle.std.proofs.lemmas.List.{drop_all}
 use Rattle.mot_base.specs.declared.Party.{Party}
 use Rattle.circuit_values.specs.declared.cause.ValuesCause.{ValuesCause}
-use Rattle.circuit_values.specs.Table.{Input}
-use Rattle.circuit_values.specs.Values.{values, behind, is_owned, is_free, value_of, values_of}
+use Rattle.circuit_tables.specs.Table.{Input}
+use Rattle.circuit_values.specs.Values.{values, behind, is_free, value_of, values_of}
+use Rattle.circuit_tables.specs.Values.{is_owned}
 use Rattle.text_lines.specs.Text.{Text}
 use Rattle.text_lines.proofs.ReaderLemmas.{IsReadTo, read_more}
 

@@ -7,8 +7,9 @@ use Rattle.mot_base.specs.declared.Party.{Party}
 use Rattle.share_types.specs.Bits.{bits}
 use Rattle.share_types.proofs.BitsLemmas.{length-bits}
 use Rattle.circuit_values.specs.declared.cause.ValuesCause.TheVariants.{NameUnknown, Missing, Twice, TooWide, Word}
-use Rattle.circuit_values.specs.Table.{Input}
-use Rattle.circuit_values.specs.Values.{values, behind, behind_words, behind_content, assignment_of, place_asked, is_free, width_at, literal_fits, literal_number, is_owned, value_of, values_of, ReadsValues, HaveWidths}
+use Rattle.circuit_tables.specs.Table.{Input}
+use Rattle.circuit_values.specs.Values.{values, behind, behind_words, behind_content, assignment_of, place_asked, is_free, width_at, literal_fits, literal_number, value_of, values_of, ReadsValues}
+use Rattle.circuit_tables.specs.Values.{is_owned, HaveWidths}
 use Rattle.circuit_values.proofs.PlaceLemmas.{place_asked-at}
 use Rattle.text_lines.specs.Text.{Text, is_allowed, line_words, lines}
 use Rattle.text_lines.specs.Chain.{or_cause, unless}

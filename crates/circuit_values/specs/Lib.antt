@@ -1,4 +1,2 @@
-pub mod Table
 pub mod Values
 pub mod Gives
-pub mod Cut

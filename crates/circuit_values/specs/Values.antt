@@ -11,7 +11,8 @@ use Rattle.circuit_values.specs.declared.cause.ValuesCause.{ValuesCause}
 use Rattle.circuit_values.specs.declared.cause.ValuesCause.TheVariants.{NameUnknown, Missing, Twice, TooWide, Word}
 use Rattle.circuit_values.specs.declared.cause.ValuesError.{ValuesError}
 use Rattle.circuit_values.specs.declared.cause.ValuesError.TheVariants.{At, NoMemory}
-use Rattle.circuit_values.specs.Table.{Input}
+use Rattle.circuit_tables.specs.Table.{Input}
+use Rattle.circuit_tables.specs.Values.{is_owned}
 use Rattle.text_lines.specs.Text.{Text, is_allowed, line_words}
 use Rattle.text_lines.specs.Word.{are_digits, begins_hexadecimal}
 use Rattle.text_lines.specs.Chain.{◌>>=◌, or_cause, unless}
@@ -52,11 +53,6 @@ assignment_of (name ∷ sign ∷ literal ∷ []) =
     then Some (record { name = name; literal = literal })
     else None
 assignment_of _ = None
-
--- whether the inputs of a party are asked for: without an owner all are
-abbrev pub is_owned : Option Party → Party → Bool
-is_owned None party = true
-is_owned (Some owner) party = owner.0 == party.0
 
 -- the place of the first input that is asked for and has a name
 abbrev pub place_asked : Option Party → List Input → Text → Option ℕ
@@ -143,16 +139,3 @@ abbrev pub EachReadsOrFaults : Type 0
 EachReadsOrFaults =
     (inputs : List Input) (owner : Option Party) (text : Text) →
     ReadsOrFaults (List (Option (List Bool))) (List (List Bool)) ValuesCause (values inputs owner) text
-
--- an input that is asked for has as many bits as its width, and any other none
-pub record HaveWidths (owner : Option Party) (inputs : List Input) (v : List (List Bool)) : Type 0 where
-  pub count : length v ≡ length inputs
-  pub each : (at : ℕ) (x : Input) (value : List Bool) →
-      slice_get inputs at ≡ Some x → slice_get v at ≡ Some value →
-      length value ≡ (if is_owned owner x.party then x.width else 0)
-
--- values of which only those that are wanted have bits
-abbrev pub kept_of : List Bool → List (List Bool) → List (List Bool)
-kept_of [] v = []
-kept_of (wanted ∷ flags) [] = []
-kept_of (wanted ∷ flags) (value ∷ v) = (if wanted then value else []) ∷ kept_of flags v

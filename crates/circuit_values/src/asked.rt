@@ -2,10 +2,11 @@ ghost use Rattle.std.specs.Prelude.{◌≡◌, ◌<◌, ℕ, List, length, slice
 ghost use Rattle.std.specs.Ordering.{nat_cmp};
 ghost use Rattle.std.specs.Cmp.Lexicographic.{slice_cmp};
 ghost use Rattle.std.specs.BTreeMap.{get_by};
-ghost use Rattle.circuit_values.specs.Table.{AreNamedApart};
-ghost use Rattle.circuit_values.specs.Values.{place_asked, is_owned, width_at};
+ghost use Rattle.circuit_tables.specs.Table.{AreNamedApart};
+ghost use Rattle.circuit_values.specs.Values.{place_asked, width_at};
+ghost use Rattle.circuit_tables.specs.Values.{is_owned};
 
-use crate::inputs::InputTable;
+use circuit_tables::InputTable;
 use mot_base::Party;
 use std::alloc::{AllocError, Global};
 use std::collections::BTreeMap;

@@ -1,23 +1,12 @@
 ghost use Rattle.std.specs.Prelude.{◌≡◌, ◌<◌, ◌≤◌, ◌^◌, ◌++◌, true, nat_lt, is_some, length, drop, OnOk, IfOk, IfSome, IfNone};
-ghost use Rattle.mot_base.specs.Limits.{most_width};
 ghost use Rattle.std.specs.List.{list_any};
 ghost use Rattle.std.specs.Char.{is_digit, digit_value};
 ghost use Rattle.std.specs.Str.Parse.{digits_value};
 ghost use Rattle.share_types.specs.Bits as vector;
 ghost use Rattle.text_lines.specs.Word.{are_digits};
 
+use circuit_tables::push_bits;
 use std::alloc::{AllocError, Global};
-
-/// Adds the lowest bits of a number at the end of some bits, the least first.
-pub fn push_bits(out: &mut Vec<bool>, word: u64, width: u8) -> Result<(), AllocError>
-    requires { width ≤ most_width }
-    ensures { OnOk result (out.new.items ≡ out.old.items ++ vector.bits width word) }
-{
-    for i in 0..width {
-        out.push((word >> i) % 2 == 1)?;
-    }
-    Ok(())
-}
 
 /// The bits of the number that hexadecimal digits spell, four for each digit.
 pub fn hexadecimal_bits(alloc: Global, digits: &[u8]) -> Result<Vec<bool>, AllocError>

@@ -3,7 +3,8 @@ ghost use Rattle.share_types.specs.Bits as vector;
 ghost use Rattle.text_lines.specs.Word.{are_digits, begins_hexadecimal};
 ghost use Rattle.circuit_values.specs.Values.{is_literal, literal_number, literal_fits};
 
-use crate::bits::{fit_bits, hexadecimal_bits, push_bits};
+use crate::bits::{fit_bits, hexadecimal_bits};
+use circuit_tables::push_bits;
 use mot_base::MAX_WIDTH;
 use std::alloc::{AllocError, Global};
 use text_lines::{is_numeral, number};

@@ -2,16 +2,16 @@ ghost use Rattle.std.specs.Prelude.{◌≡◌, ◌<◌, ◌≤◌, ◌&&◌, tru
 ghost use Rattle.mot_base.specs.Limits.{most_file_bytes};
 ghost use Rattle.text_lines.specs.Chain.{or_cause, unless};
 ghost use Rattle.circuit_values.specs.declared.cause.ValuesCause.TheVariants.{Missing};
-ghost use Rattle.circuit_values.specs.Table.{AreNamedApart};
-ghost use Rattle.circuit_values.specs.Values.{is_free, is_owned, is_literal, assignment_of, behind_words, behind, values_of, ReadsValues, IsFirstFault, EachReadsOrFaults, HaveWidths};
+ghost use Rattle.circuit_tables.specs.Table.{AreNamedApart};
+ghost use Rattle.circuit_values.specs.Values.{is_free, is_literal, assignment_of, behind_words, behind, values_of, ReadsValues, IsFirstFault, EachReadsOrFaults};
+ghost use Rattle.circuit_tables.specs.Values.{is_owned, HaveWidths};
 ghost use Rattle.circuit_values.specs.Gives.{Gives, GivesAt, error_at};
 
 use crate::asked::Asked;
 use crate::cause::{LineError, ValuesCause, ValuesError};
 use crate::given::Given;
-use crate::inputs::InputTable;
 use crate::literal::{is_literal_word, literal_bits};
-use crate::values::Values;
+use circuit_tables::{InputTable, Values};
 use mot_base::Party;
 use std::alloc::Global;
 use text_lines::{Lines, are_allowed, line_words_of};

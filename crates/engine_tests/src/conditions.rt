@@ -4,7 +4,7 @@ ghost use Rattle.std.specs.Prelude.{◌≡◌, ◌<◌, ◌≤◌, ◌+◌, ℕ,
 ghost use Rattle.std.specs.Option.{option_copied};
 ghost use Rattle.share_types.specs.declared.needs.Kind.{Kind};
 ghost use Rattle.share_types.specs.Needs.{count_of, sum_of_needs};
-ghost use Rattle.circuit_values.specs.Values.{HaveWidths};
+ghost use Rattle.circuit_tables.specs.Values.{HaveWidths};
 ghost use Rattle.dealer_files.specs.Part.{counts_of};
 ghost use Rattle.plan_gates.specs.Gate.{Gate};
 ghost use Rattle.plan_gates.specs.Needs.{all_needs};

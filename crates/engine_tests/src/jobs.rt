@@ -2,8 +2,8 @@
 
 ghost use Rattle.std.specs.Prelude.{◌≡◌, ◌≤◌, ℕ, length, slice_get, Some, None, IfOk};
 ghost use Rattle.mot_base.specs.Limits.{most_file_bytes, least_parties, most_parties};
-ghost use Rattle.circuit_values.specs.Table.{AreNamedApart};
-ghost use Rattle.circuit_values.specs.Values.{HaveWidths};
+ghost use Rattle.circuit_tables.specs.Table.{AreNamedApart};
+ghost use Rattle.circuit_tables.specs.Values.{HaveWidths};
 ghost use Rattle.gate_tasks.specs.declared.own.Own.{Own};
 
 use bristol_reader::read_bristol;

@@ -11,7 +11,7 @@ use Rattle.std.proofs.lemmas.Option.{slice_get_within}
 use Rattle.mot_base.specs.Limits.{most_width}
 use Rattle.share_types.specs.Bits.{bits}
 use Rattle.share_types.specs.declared.sharing.WireType.{WireType}
-use Rattle.circuit_values.specs.Table.{Told}
+use Rattle.circuit_tables.specs.Table.{Told}
 use Rattle.mixed_circuit.specs.declared.language.Operation.{Operation}
 use Rattle.mixed_circuit.specs.declared.language.Operation.TheVariants.{InputWord, InputBits, ConstWord, ConstBits, Add, Sub, Mul, AddConst, MulConst, Xor, And, Not, Slice, Join, A2Y, A2B, B2Y, Y2B, B2A, Y2A, Output}
 use Rattle.mixed_circuit.specs.declared.operand.Operand.{Operand}

@@ -1,6 +1,6 @@
 -- That lowering keeps the plain evaluation.
 use Rattle.std.specs.Prelude.{ℕ, ◌≡◌, List, map, slice_get, Some}
-use Rattle.circuit_values.specs.Table.{Told}
+use Rattle.circuit_tables.specs.Table.{Told}
 use Rattle.mixed_circuit.specs.Circuit.{Circuit}
 use Rattle.mixed_circuit.specs.Eval.{IsEvaluated, told_of}
 use Rattle.plan_gates.specs.Plan.{Gates}

@@ -8,9 +8,9 @@ ghost use Rattle.gate_plan.specs.Bristol.{are_keys, gates_of_kind, gates_of_end,
 
 use crate::error::PlanError;
 use crate::expand::lower_bits;
-use plan_gates::Plan;
 use bristol_reader::{Bristol, BristolKind};
 use mot_base::MAX_GATES;
+use plan_gates::Plan;
 use share_types::Sharing;
 use std::alloc::Global;
 

@@ -12,11 +12,10 @@ ghost use Rattle.plan_gates.specs.Gate.{InB, AndB, kind_of, stated_width};
 ghost use Rattle.gate_plan.specs.Bristol.{all_bristol_gates, gates_of_kind, bit_gate, input_gates, kind_gates, first_output, rewired, bristol_lowered, KeepsBristol};
 ghost use Rattle.gate_plan.specs.Wired.{with_gates, gate_in, IsWired, AreUsable, IsBitAt};
 
-use plan_gates::GateKind;
-use plan_gates::Plan;
 use bristol_reader::{Bristol, BristolKind};
-use circuit_values::Receiver;
+use circuit_tables::Receiver;
 use mot_base::{NoMemory, Party};
+use plan_gates::{GateKind, Plan};
 use share_types::Bits;
 use std::alloc::Global;
 

@@ -7,10 +7,10 @@ ghost use Rattle.gate_plan.specs.Lowering.{wire_handled, is_keys, gates_of, gate
 ghost use Rattle.gate_plan.specs.Keeps.{KeepsEvaluation};
 
 use crate::error::PlanError;
-use plan_gates::Plan;
 use crate::statement::{gate_of, inputs_taken, wire_handled};
 use mixed_circuit::{Form, Mixed};
 use mot_base::{MAX_GATES, NoMemory};
+use plan_gates::Plan;
 use share_types::WireType;
 use std::alloc::Global;
 

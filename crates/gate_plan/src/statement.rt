@@ -11,10 +11,10 @@ ghost use Rattle.mixed_circuit.specs.Wide.{IsWide};
 ghost use Rattle.plan_gates.specs.Gate.{OutA, OutB, kind_of, stated_width};
 ghost use Rattle.gate_plan.specs.Lowering.{handled_by, wire_handled, is_word, kind_made, source_by};
 
-use plan_gates::GateKind;
-use circuit_values::Receiver;
+use circuit_tables::Receiver;
 use mixed_circuit::{Form, Mixed};
 use mot_base::MAX_WIDTH;
+use plan_gates::GateKind;
 use share_types::{Bits, WireType};
 
 /// How the value of a statement is shared, or the value that it tells.
@@ -76,7 +76,10 @@ pub fn gate_of(form: Form, k: u32, wire: WireType) -> Option<GateKind>
         Form::MulConstA { x, c } => Some(GateKind::MulConstA { x, c }),
         Form::XorB { x, y } | Form::XorY { x, y } => Some(GateKind::XorB { x, y }),
         Form::AndB { x, y } | Form::AndY { x, y } => Some(GateKind::AndB { x, y }),
-        Form::NotB { x } | Form::NotY { x } => Some(GateKind::XorConstB { x, c: Bits::ones(width) }),
+        Form::NotB { x } | Form::NotY { x } => Some(GateKind::XorConstB {
+            x,
+            c: Bits::ones(width),
+        }),
         Form::SliceB { x, at, .. } | Form::SliceY { x, at, .. } => {
             Some(GateKind::SliceB { x, at, width })
         }

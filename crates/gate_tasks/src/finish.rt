@@ -16,8 +16,8 @@ use crate::payload::word_in;
 use crate::value::Value;
 use arithmetic_gmw::{add, add_const, mul_close, mul_const, mul_open, sub};
 use boolean_gmw::{and_close, and_open, xor, xor_const};
-use plan_gates::GateKind;
 use mot_base::{MAX_WIDTH, Payload};
+use plan_gates::GateKind;
 use share_types::Bits;
 
 /// The value of a gate at which the party hears nothing, where it is no input of its own.

@@ -12,9 +12,9 @@ use crate::own::Env;
 use crate::step::Need;
 use crate::value::Value;
 use crate::wires::Wires;
-use plan_gates::GateKind;
 use message_demux::Slot;
 use mot_base::{NoMemory, Party, Payload};
+use plan_gates::GateKind;
 use std::alloc::Global;
 
 /// The first thing that a stage lacks.

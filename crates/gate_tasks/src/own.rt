@@ -2,11 +2,11 @@
 
 use crate::value::Value;
 use crate::wires::Wires;
-use circuit_values::Values;
+use circuit_tables::Values;
 use dealer_files::DealerPart;
-use plan_gates::Plan;
 use message_demux::Inbox;
 use mot_base::{Party, Seed};
+use plan_gates::Plan;
 use share_types::Needs;
 
 /// What a party brings beside its part of a deal: its number, the seed of its tape, its input values, the session, and

@@ -11,8 +11,8 @@ use crate::outgoing::{Out, Outs};
 use crate::own::StageEnv;
 use crate::payload::{vector_payload, word_payload};
 use crate::value::Value;
-use plan_gates::GateKind;
 use mot_base::{NoMemory, Party, Payload};
+use plan_gates::GateKind;
 use share_types::Bits;
 use std::alloc::Global;
 

@@ -17,8 +17,8 @@ use crate::outgoing::{Carried, Outs};
 use crate::own::StageEnv;
 use crate::sending::{ToSend, formed, outs};
 use crate::value::Value;
-use plan_gates::GateKind;
 use mot_base::{NoMemory, Payload};
+use plan_gates::GateKind;
 use std::alloc::Global;
 
 /// What a stage gives: what is carried to the next one, which is `None` exactly at the last stage; the gate's value, which

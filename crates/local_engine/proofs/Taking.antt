@@ -8,7 +8,7 @@ use Rattle.share_types.specs.declared.sharing.Sharing.{Sharing}
 use Rattle.share_types.specs.declared.sharing.Sharing.TheVariants as sharing
 use Rattle.share_types.specs.declared.sharing.WireType.{WireType}
 use Rattle.share_types.specs.declared.receiver.Receiver.TheVariants.{All}
-use Rattle.circuit_values.specs.Table.{Input}
+use Rattle.circuit_tables.specs.Table.{Input}
 use Rattle.mixed_circuit.specs.declared.language.Operation.{Operation}
 use Rattle.mixed_circuit.specs.declared.language.Operation.TheVariants.{InputWord, InputBits, ConstWord, ConstBits, Add, Sub, Mul, AddConst, MulConst, Xor, And, Not, Slice, Join, A2Y, A2B, B2Y, Y2B, B2A, Y2A, Output}
 use Rattle.mixed_circuit.specs.declared.operand.Operand.{Operand}

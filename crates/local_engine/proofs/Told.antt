@@ -8,7 +8,7 @@ use Rattle.share_types.specs.Wires.{includes}
 use Rattle.share_types.proofs.BitsLemmas.{length-bits}
 use Rattle.share_types.specs.declared.receiver.Receiver.{Receiver}
 use Rattle.share_types.specs.declared.receiver.Receiver.TheVariants.{All}
-use Rattle.circuit_values.specs.Table.{Output, Told, asked, joined_bits, AreCut}
+use Rattle.circuit_tables.specs.Table.{Output, Told, asked, joined_bits, AreCut}
 use Rattle.mixed_circuit.specs.Circuit.{Statement}
 use Rattle.mixed_circuit.specs.Circuit as mixed
 use Rattle.mixed_circuit.specs.Language.{states, is_told_slot}

@@ -2,7 +2,7 @@
 use Rattle.std.specs.Prelude.{ℕ, ◌≡◌, Bool, List, map, Some}
 use Rattle.share_types.specs.declared.bits.Bits.{Bits}
 use Rattle.share_types.specs.Bits.{number}
-use Rattle.circuit_values.specs.Table.{Told, asked, joined_bits, AreCut}
+use Rattle.circuit_tables.specs.Table.{Told, asked, joined_bits, AreCut}
 use Rattle.mixed_circuit.specs.Circuit as mixed
 use Rattle.mixed_circuit.specs.Table as mixed_table
 use Rattle.mixed_circuit.specs.Eval.{told_of}

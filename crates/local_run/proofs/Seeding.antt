@@ -11,8 +11,8 @@ use Rattle.share_types.specs.declared.needs.Kind.TheVariants.{Mult, Bit, Shared,
 use Rattle.share_types.specs.Bits.{number}
 use Rattle.share_types.specs.Needs.{count_of, no_needs, sum_of_needs}
 use Rattle.share_types.proofs.Parties.{length-each}
-use Rattle.circuit_values.specs.Table.{Input}
-use Rattle.circuit_values.specs.Values.{HaveWidths, kept_of}
+use Rattle.circuit_tables.specs.Table.{Input}
+use Rattle.circuit_tables.specs.Values.{HaveWidths, kept_of}
 use Rattle.mot_base.proofs.Lists.{same_some, take_next}
 use Rattle.dealer_files.specs.Part.{Part, counts_of}
 use Rattle.plan_gates.specs.Gate.{Kind, Gate, InA, InB, party_of}

@@ -12,7 +12,7 @@ use Rattle.share_types.specs.Bits.{bits, number}
 use Rattle.share_types.proofs.BitsLemmas.{length-bits}
 use Rattle.share_types.specs.declared.receiver.Receiver.{Receiver}
 use Rattle.share_types.specs.declared.receiver.Receiver.TheVariants.{All}
-use Rattle.circuit_values.specs.Table.{Output, Told, asked, joined_bits, AreCut}
+use Rattle.circuit_tables.specs.Table.{Output, Told, asked, joined_bits, AreCut}
 use Rattle.mot_base.proofs.Lists.{take_next}
 use Rattle.plan_gates.specs.Gate.{Gate, width_at, receiver_of}
 use Rattle.plan_gates.specs.Plan.{Gates}

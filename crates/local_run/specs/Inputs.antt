@@ -1,6 +1,6 @@
 -- From whom and how far the gates of a plan take their inputs.
 use Rattle.std.specs.Prelude.{ℕ, ◌≡◌, ◌≤◌, ◌+◌, List, slice_get, Some}
-use Rattle.circuit_values.specs.Table.{Input}
+use Rattle.circuit_tables.specs.Table.{Input}
 use Rattle.plan_gates.specs.Gate.{Gate}
 use Rattle.plan_gates.specs.Plan.{Gates}
 use Rattle.gate_tasks.specs.Honest.{Taken, taken_by}

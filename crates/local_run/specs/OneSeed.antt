@@ -6,8 +6,8 @@ use Rattle.share_types.specs.declared.needs.Needs.{Needs}
 use Rattle.share_types.specs.Bits.{number}
 use Rattle.share_types.specs.Needs.{count_of, no_needs}
 use Rattle.share_types.specs.Sums.{each}
-use Rattle.circuit_values.specs.Table.{Input}
-use Rattle.circuit_values.specs.Values.{HaveWidths, kept_of}
+use Rattle.circuit_tables.specs.Table.{Input}
+use Rattle.circuit_tables.specs.Values.{HaveWidths, kept_of}
 use Rattle.dealer_files.specs.Part.{Part, counts_of}
 use Rattle.dealer_files.specs.Honest.{HonestTogether}
 use Rattle.plan_gates.specs.Plan.{Gates, IsPlan}

@@ -3,7 +3,7 @@ use Rattle.std.specs.Prelude.{ℕ, ◌≡◌, Bool, List, length, map, filter, s
 use Rattle.std.specs.List.{flat_map}
 use Rattle.share_types.specs.declared.bits.Bits.{Bits}
 use Rattle.share_types.specs.Bits.{bits}
-use Rattle.circuit_values.specs.Table.{Told}
+use Rattle.circuit_tables.specs.Table.{Told}
 use Rattle.plan_gates.specs.Gate.{width_at}
 use Rattle.plan_gates.specs.Plan.{Gates}
 use Rattle.share_types.specs.Wires.{includes}

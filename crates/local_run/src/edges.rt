@@ -10,8 +10,8 @@ ghost use Rattle.local_run.specs.Loads.{all_loads, all_edges, edge_to, giver, Is
 use crate::item::{Item, Load};
 use crate::items::Items;
 use crate::loads::{push_loads, push_reports};
-use plan_gates::Plan;
 use mot_base::NoMemory;
+use plan_gates::Plan;
 use std::alloc::Global;
 use turn_core::{Edge, TERMINAL};
 

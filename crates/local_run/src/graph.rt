@@ -8,8 +8,8 @@ ghost use Rattle.local_run.specs.Loads.{all_loads, all_edges, graph_of};
 use crate::edges::Edges;
 use crate::item::{Item, Load};
 use crate::items::Items;
-use plan_gates::Plan;
 use mot_base::NoMemory;
+use plan_gates::Plan;
 use std::alloc::Global;
 use turn_core::{Dag, DagError};
 

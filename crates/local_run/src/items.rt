@@ -5,8 +5,8 @@ ghost use Rattle.plan_gates.specs.Messages.{hears};
 ghost use Rattle.local_run.specs.Items.{item, items_before, items_of, all_items, first_item, listeners, number_of};
 
 use crate::item::Item;
-use plan_gates::Plan;
 use mot_base::{NoMemory, Party};
+use plan_gates::Plan;
 use std::alloc::Global;
 
 /// All items of a plan by their numbers, and the number of each gate's first one.

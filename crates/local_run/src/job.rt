@@ -1,13 +1,13 @@
 //! Runs that are asked for.
 
 ghost use Rattle.std.specs.Prelude.{◌≡◌, length, None, IfOk};
-ghost use Rattle.circuit_values.specs.Values.{HaveWidths};
+ghost use Rattle.circuit_tables.specs.Values.{HaveWidths};
 ghost use Rattle.local_run.specs.OneSeed.{own_flags, own_of, owns_of};
 
-use circuit_values::{InputTable, Values};
-use plan_gates::Plan;
+use circuit_tables::{InputTable, Values};
 use gate_tasks::Own;
 use mot_base::{NoMemory, Party, Seed, derive};
+use plan_gates::Plan;
 use share_types::Needs;
 use std::alloc::Global;
 

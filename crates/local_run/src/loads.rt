@@ -9,9 +9,9 @@ ghost use Rattle.local_run.specs.declared.item.Load.TheVariants.{Wire};
 ghost use Rattle.local_run.specs.Loads.{wires_to, heard_by, loads_to, tells_at, told_gates, sent_at, sent_before, report_loads, reports_loads};
 
 use crate::item::{Item, Load};
-use circuit_values::Receiver;
-use plan_gates::{GateKind, Plan};
+use circuit_tables::Receiver;
 use mot_base::{NoMemory, Party};
+use plan_gates::{GateKind, Plan};
 
 /// Adds what flows into an item at the end.
 pub(crate) fn push_loads(plan: &Plan, item: Item, loads: &mut Vec<Load>) -> Result<(), NoMemory>

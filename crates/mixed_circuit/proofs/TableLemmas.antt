@@ -6,7 +6,7 @@ use Rattle.std.proofs.lemmas.Option.{slice_get_within, get_or_from_slice_get}
 use Rattle.std.proofs.lemmas.Slice.Eq.{bytes_eq-Decides}
 use Rattle.std.proofs.lemmas.List.{drop_all, append-nil}
 use Rattle.std.proofs.Math.Seq.{drop-cons}
-use Rattle.circuit_values.specs.Table.{Input, Output, Told, AreNamedApart}
+use Rattle.circuit_tables.specs.Table.{Input, Output, Told, AreNamedApart}
 use Rattle.mixed_circuit.specs.Eval.{told_by, told_among}
 use Rattle.mixed_circuit.specs.Circuit.{Circuit, Statement, place_of}
 use Rattle.mixed_circuit.specs.Said.{IsCircuit}

@@ -18,9 +18,9 @@ use Rattle.std.specs.Option.{unwrap_or}
 use Rattle.share_types.specs.Bits.{bits}
 use Rattle.share_types.proofs.BitsLemmas.{length-bits}
 use Rattle.std.proofs.lemmas.List.Elements.{All-from_recursion}
-use Rattle.circuit_values.specs.Table.{Told}
-use Rattle.circuit_values.specs.Values.{HaveWidths}
-use Rattle.circuit_values.proofs.Narrow.{values_narrow}
+use Rattle.circuit_tables.specs.Table.{Told}
+use Rattle.circuit_tables.specs.Values.{HaveWidths}
+use Rattle.circuit_tables.proofs.Narrow.{values_narrow}
 use Rattle.mixed_circuit.specs.Language.{states, is_told_slot}
 use Rattle.mixed_circuit.specs.Table.{inputs_of, input_entry, owner_of, receiver_of, name_at, width_at, told_value}
 use Rattle.mixed_circuit.specs.Eval.{told_among}

@@ -4,7 +4,7 @@ use Rattle.std.specs.Option.{unwrap_or}
 use Rattle.share_types.specs.Bits.{once, number, bits}
 use Rattle.mot_base.specs.Limits.{most_width}
 use Rattle.share_types.specs.Sums.{word_difference}
-use Rattle.circuit_values.specs.Table.{Told}
+use Rattle.circuit_tables.specs.Table.{Told}
 use Rattle.mixed_circuit.specs.declared.language.Operation.{Operation}
 use Rattle.mixed_circuit.specs.declared.language.Operation.TheVariants.{InputWord, InputBits, ConstWord, ConstBits, Add, Sub, Mul, AddConst, MulConst, Xor, And, Not, Slice, Join, A2Y, A2B, B2Y, Y2B, B2A, Y2A, Output}
 use Rattle.mixed_circuit.specs.Language.{states, is_told_slot}

@@ -3,7 +3,7 @@ use Rattle.std.specs.Prelude.{ℕ, List, [], ◌∷◌, ◌++◌, slice_get, sli
 use Rattle.std.specs.Option.{unwrap_or}
 use Rattle.share_types.specs.declared.receiver.Receiver.{Receiver}
 use Rattle.share_types.specs.declared.receiver.Receiver.TheVariants.{All, One}
-use Rattle.circuit_values.specs.Table.{Input, Output}
+use Rattle.circuit_tables.specs.Table.{Input, Output}
 use Rattle.mixed_circuit.specs.Language.{states, is_owner_slot, is_told_slot}
 use Rattle.mixed_circuit.specs.Circuit.{Circuit, Statement, Shape, wire_at}
 use Rattle.share_types.specs.Wires.{width_of}

@@ -2,7 +2,7 @@ ghost use Rattle.std.specs.Prelude.{◌≡◌, ◌<◌, ◌≤◌, ◌==◌, len
 ghost use Rattle.mot_base.specs.Limits.{least_parties, most_parties};
 
 use crate::form::Form;
-use circuit_values::Values;
+use circuit_tables::Values;
 use mot_base::NoMemory;
 use share_types::WireType;
 use std::alloc::{AllocError, Global};
@@ -69,7 +69,7 @@ impl Mixed {
     ghost use Rattle.mixed_circuit.specs.Said.{IsCircuit, IsSaid, AreEarlier};
     ghost use Rattle.mixed_circuit.specs.Wide.{AllWide};
     ghost use Rattle.share_types.specs.Bits.{number};
-    ghost use Rattle.circuit_values.specs.Values.{HaveWidths};
+    ghost use Rattle.circuit_tables.specs.Values.{HaveWidths};
     ghost use Rattle.mixed_circuit.specs.Table.{inputs_of};
 
     /// The circuit of no statement.

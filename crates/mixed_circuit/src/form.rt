@@ -1,4 +1,4 @@
-use circuit_values::Receiver;
+use circuit_tables::Receiver;
 use mot_base::Party;
 use share_types::Bits;
 

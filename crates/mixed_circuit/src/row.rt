@@ -8,7 +8,7 @@ ghost use Rattle.mixed_circuit.specs.Rows.{row_shape};
 
 use crate::form::Form;
 use crate::language::Operation;
-use circuit_values::Receiver;
+use circuit_tables::Receiver;
 use mot_base::{MAX_WIDTH, Party};
 use share_types::{Bits, Sharing};
 

@@ -13,7 +13,7 @@ use crate::form::Form;
 use crate::language::Operation;
 use crate::operand::Operand;
 use crate::raw::Raw;
-use circuit_values::Receiver;
+use circuit_tables::Receiver;
 use mot_base::Party;
 use share_types::{Bits, Sharing, WireType};
 use text_lines::name_text;

@@ -1,12 +1,12 @@
 ghost use Rattle.std.specs.Prelude.{◌≡◌, ◌<◌, ◌≤◌, ◌+◌, ◌++◌, [], ◌∷◌, length, slice_get, IfOk, IfSome, OnOk};
 ghost use Rattle.mot_base.specs.Limits.{most_gates};
-ghost use Rattle.circuit_values.specs.Table.{AreNamedApart};
+ghost use Rattle.circuit_tables.specs.Table.{AreNamedApart};
 ghost use Rattle.mixed_circuit.specs.Table.{inputs_of, outputs_of, input_entry, owner_of, output_entry, name_at, width_at};
 
 use crate::circuit::Mixed;
 use crate::form::Form;
 use crate::operand::width_in;
-use circuit_values::{InputTable, OutputTable, Receiver};
+use circuit_tables::{InputTable, OutputTable, Receiver};
 use mot_base::{MAX_WIDTH, NoMemory};
 use std::alloc::Global;
 

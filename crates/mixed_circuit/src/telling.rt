@@ -1,14 +1,14 @@
 ghost use Rattle.std.specs.Prelude.{◌≡◌, ◌<◌, ◌≤◌, ◌+◌, ◌++◌, [], ◌∷◌, length, slice_get, slice_index, All, None, IfOk, IfSome, OnOk};
 ghost use Rattle.mot_base.specs.Limits.{most_width, most_gates};
 ghost use Rattle.share_types.specs.Bits.{bits};
-ghost use Rattle.circuit_values.specs.Values.{HaveWidths};
+ghost use Rattle.circuit_tables.specs.Values.{HaveWidths};
 ghost use Rattle.mixed_circuit.specs.Table.{inputs_of, name_at, width_at};
 ghost use Rattle.mixed_circuit.specs.Eval.{told_by, told_of, IsPlain};
 
 use crate::circuit::Mixed;
 use crate::evaluate::{values_of, width_at};
 use crate::form::Form;
-use circuit_values::{Outputs, Receiver, Values};
+use circuit_tables::{Outputs, Receiver, Values};
 use mot_base::NoMemory;
 use std::alloc::Global;
 

@@ -8,7 +8,7 @@ use Rattle.share_types.specs.declared.sharing.Sharing.TheVariants as share
 use Rattle.cli_words.specs.declared.table.Sharing as word
 use Rattle.cli_words.specs.declared.table.Sharing.TheVariants.{B, Y}
 use Rattle.share_types.specs.declared.sharing.WireType.{WireType}
-use Rattle.circuit_values.specs.Table.{Output}
+use Rattle.circuit_tables.specs.Table.{Output}
 use Rattle.mixed_circuit.specs.Circuit as mixed
 use Rattle.mixed_circuit.specs.Circuit.{Statement, wire_at}
 use Rattle.share_types.specs.Wires.{width_of}

@@ -10,9 +10,9 @@ use Rattle.share_types.specs.declared.needs.Needs.{Needs}
 use Rattle.share_types.specs.Needs.{place_of, IsFirstShort}
 use Rattle.cli_words.specs.Request.{LocalRequest}
 use Rattle.share_types.specs.Bits.{bits}
-use Rattle.circuit_values.specs.Table.{asked, joined_bits, AreCut}
-use Rattle.circuit_values.proofs.CutLemmas.{cuts_once}
-use Rattle.circuit_values.proofs.Narrow.{some_at}
+use Rattle.circuit_tables.specs.Table.{asked, joined_bits, AreCut}
+use Rattle.circuit_tables.proofs.CutLemmas.{cuts_once}
+use Rattle.circuit_tables.proofs.Narrow.{some_at}
 use Rattle.dealer_files.specs.Part.{Part}
 use Rattle.plan_gates.specs.Needs.{all_needs}
 use Rattle.gate_tasks.specs.Party as party

@@ -9,8 +9,8 @@ use Rattle.mot_base.specs.Limits.{most_width}
 use Rattle.std.specs.Fmt.{digits}
 use Rattle.std.proofs.lemmas.List.{append-nil, length-append, drop-drop, length-drop, take_all}
 use Rattle.share_types.specs.Bits.{number}
-use Rattle.circuit_values.specs.Table.{Output, Told, asked, is_asked, AreCut}
-use Rattle.circuit_values.proofs.Narrow.{some_at}
+use Rattle.circuit_tables.specs.Table.{Output, Told, asked, is_asked, AreCut}
+use Rattle.circuit_tables.proofs.Narrow.{some_at}
 use Rattle.mixed_circuit.proofs.ListLemmas.{take_next}
 use Rattle.text_lines.specs.Text.{Text}
 use Rattle.local_run.specs.declared.report.PartyReport.{PartyReport}

@@ -7,8 +7,8 @@ use Rattle.share_types.specs.Bits.{number}
 use Rattle.text_lines.specs.Text.{Text, lines as lines_of}
 use Rattle.text_lines.proofs.ReaderLemmas.{reads_or_faults}
 use Rattle.circuit_values.specs.declared.cause.ValuesCause.{ValuesCause}
-use Rattle.circuit_values.specs.Table.{Told, AreCut}
-use Rattle.circuit_values.proofs.CutLemmas.{cuts_once}
+use Rattle.circuit_tables.specs.Table.{Told, AreCut}
+use Rattle.circuit_tables.proofs.CutLemmas.{cuts_once}
 use Rattle.circuit_values.specs.Values as values
 use Rattle.mixed_circuit.specs.declared.cause.CircuitCause.{CircuitCause}
 use Rattle.mixed_circuit.specs.declared.read.Stage.{Stage}

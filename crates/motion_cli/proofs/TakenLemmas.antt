@@ -14,10 +14,11 @@ use Rattle.share_types.specs.declared.needs.Kind.{Kind}
 use Rattle.share_types.specs.declared.needs.Kind.TheVariants as kind
 use Rattle.share_types.specs.declared.needs.Needs.{Needs}
 use Rattle.share_types.specs.Needs.{count_of, no_needs}
-use Rattle.circuit_values.specs.Table.{Input, Told, asked, total_width}
-use Rattle.circuit_values.specs.Values.{HaveWidths, ReadsValues}
+use Rattle.circuit_tables.specs.Table.{Input, Told, asked, total_width}
+use Rattle.circuit_values.specs.Values.{ReadsValues}
+use Rattle.circuit_tables.specs.Values.{HaveWidths}
 use Rattle.cli_words.specs.Request.{LocalRequest}
-use Rattle.circuit_values.proofs.Narrow.{some_at}
+use Rattle.circuit_tables.proofs.Narrow.{some_at}
 use Rattle.dealer_files.specs.Part.{Part, counts_of}
 use Rattle.dealer_files.specs.Honest.{HonestTogether}
 use Rattle.dealer_maker.specs.Draws.{parts_drawn}

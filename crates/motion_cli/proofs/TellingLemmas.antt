@@ -10,10 +10,10 @@ use Rattle.std.proofs.Math.Seq.{take-append_seam}
 use Rattle.share_types.specs.declared.bits.Bits.{Bits}
 use Rattle.share_types.specs.Bits.{number, bits}
 use Rattle.share_types.proofs.BitsLemmas.{length-bits}
-use Rattle.circuit_values.specs.Table.{Output, Told, asked, joined_bits, total_width, AreCut}
-use Rattle.circuit_values.specs.Values.{HaveWidths}
-use Rattle.circuit_values.proofs.CutLemmas.{cut_of, cut_is_cut, cuts_once}
-use Rattle.circuit_values.proofs.Narrow.{some_at}
+use Rattle.circuit_tables.specs.Table.{Output, Told, asked, joined_bits, total_width, AreCut}
+use Rattle.circuit_tables.specs.Values.{HaveWidths}
+use Rattle.circuit_tables.proofs.CutLemmas.{cut_of, cut_is_cut, cuts_once}
+use Rattle.circuit_tables.proofs.Narrow.{some_at}
 use Rattle.mixed_circuit.specs.Circuit.{Statement}
 use Rattle.mixed_circuit.specs.Circuit as mixed
 use Rattle.mixed_circuit.specs.Language.{states, is_told_slot}

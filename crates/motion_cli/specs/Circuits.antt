@@ -7,7 +7,7 @@ use Rattle.share_types.specs.declared.sharing.Sharing.TheVariants as share
 use Rattle.cli_words.specs.declared.table.Sharing as word
 use Rattle.cli_words.specs.declared.table.Sharing.TheVariants.{B, Y}
 use Rattle.cli_words.specs.Request.{Bristol, bristol_of}
-use Rattle.circuit_values.specs.Table.{Input, Output, Told}
+use Rattle.circuit_tables.specs.Table.{Input, Output, Told}
 use Rattle.mixed_circuit.specs.Circuit as mixed
 use Rattle.mixed_circuit.specs.Grammar as mixed_text
 use Rattle.mixed_circuit.specs.Table as mixed_table

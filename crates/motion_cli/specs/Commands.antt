@@ -5,7 +5,7 @@ use Rattle.mot_base.specs.Limits.{most_file_bytes, most_gates}
 use Rattle.std.specs.Fmt.{decimal}
 use Rattle.cli_words.specs.Request.{Request, PlainRequest, NeedsRequest, DealRequest, LocalRequest, Bristol, plain, needs, deal, local}
 use Rattle.circuit_values.specs.declared.cause.ValuesCause.{ValuesCause}
-use Rattle.circuit_values.specs.Table.{Told}
+use Rattle.circuit_tables.specs.Table.{Told}
 use Rattle.circuit_values.specs.Values as values
 use Rattle.text_lines.specs.Text.{Text}
 use Rattle.motion_cli.specs.declared.circuit.CircuitFault.{CircuitFault}

@@ -6,7 +6,7 @@ use Rattle.hex.specs.Hex.{encode_lower}
 use Rattle.mot_base.specs.Limits.{most_width}
 use Rattle.share_types.specs.Bits.{number}
 use Rattle.share_types.specs.declared.needs.Needs.{Needs}
-use Rattle.circuit_values.specs.Table.{Output, Told}
+use Rattle.circuit_tables.specs.Table.{Output, Told}
 use Rattle.share_types.specs.Wires.{includes}
 use Rattle.text_lines.specs.Text.{Text}
 use Rattle.plan_gates.specs.Plan.{Gates}

@@ -2,7 +2,7 @@
 use Rattle.std.specs.Prelude.{ℕ, ◌≡◌, Bool, List, length, slice_get, Option, Some, None}
 use Rattle.share_types.specs.declared.needs.Needs.{Needs}
 use Rattle.cli_words.specs.Request.{LocalRequest}
-use Rattle.circuit_values.specs.Table.{Output, Told, asked, joined_bits, AreCut}
+use Rattle.circuit_tables.specs.Table.{Output, Told, asked, joined_bits, AreCut}
 use Rattle.dealer_files.specs.Part.{Part}
 use Rattle.dealer_files.specs.Honest.{HonestTogether}
 use Rattle.gate_tasks.specs.Party.{Own}

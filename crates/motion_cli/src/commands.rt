@@ -4,7 +4,8 @@ ghost use Rattle.std.specs.Prelude.{◌≡◌, ◌≤◌, ◌⊎◌, length, map
 ghost use Rattle.mot_base.specs.Faults.{Rose};
 ghost use Rattle.mot_base.specs.Limits.{most_file_bytes};
 ghost use Rattle.circuit_values.specs.declared.cause.ValuesCause.{ValuesCause};
-ghost use Rattle.circuit_values.specs.Values.{ReadsValues, HaveWidths};
+ghost use Rattle.circuit_values.specs.Values.{ReadsValues};
+ghost use Rattle.circuit_tables.specs.Values.{HaveWidths};
 ghost use Rattle.circuit_values.specs.Values as values;
 ghost use Rattle.local_run.specs.Inputs.{TakesInputs};
 ghost use Rattle.motion_cli.specs.declared.circuit.CircuitFault.{CircuitFault};

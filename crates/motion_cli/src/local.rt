@@ -4,7 +4,7 @@ ghost use Rattle.std.specs.Prelude.{◌≡◌, ◌≤◌, ◌⊎◌, length, map
 ghost use Rattle.mot_base.specs.Faults.{Rose};
 ghost use Rattle.mot_base.specs.Limits.{most_file_bytes};
 ghost use Rattle.cli_words.specs.Request.{local_request};
-ghost use Rattle.circuit_values.specs.Values.{HaveWidths};
+ghost use Rattle.circuit_tables.specs.Values.{HaveWidths};
 ghost use Rattle.local_run.specs.Inputs.{TakesInputs};
 ghost use Rattle.local_run.specs.OneSeed.{ServeAll};
 ghost use Rattle.motion_cli.specs.Circuits as any;

@@ -1,7 +1,7 @@
 //! Texts of values for tables of inputs.
 ghost use Rattle.std.specs.Prelude.{◌≡◌, ◌≤◌, ◌∷◌, [], IfOk, length, map};
 ghost use Rattle.mot_base.specs.Limits.{most_file_bytes};
-ghost use Rattle.circuit_values.specs.Table.{AreNamedApart};
+ghost use Rattle.circuit_tables.specs.Table.{AreNamedApart};
 
 use circuit_values::{InputTable, ValuesCause, ValuesError, read_values};
 use mot_base::{MAX_FILE_LENGTH, NoMemory, Party};

@@ -1,7 +1,7 @@
 use Rattle.std.proofs.Common.{List, Bool, ◌∙◌, ap, sym, drop}
 use Rattle.std.specs.List.{list_any}
 use Rattle.share_types.specs.Bits.{number}
-use Rattle.circuit_values.proofs.BitLists.{cut_number, cut_high}
+use Rattle.circuit_tables.proofs.BitLists.{cut_number, cut_high}
 use Rattle.circuit_values.proofs.bits.cut_bits.Goals as goal
 
 pub returns-then-has_one_from-clause-none : goal.returns-then-has_one_from-clause-none

@@ -1,6 +1,6 @@
 use Rattle.std.proofs.Common.{◌<◌, ◌^◌, sym, subst, ℕ}
 use Rattle.std.proofs.lemmas.Bool.{lt-ltb}
-use Rattle.circuit_values.proofs.BitLists.{number_short}
+use Rattle.circuit_tables.proofs.BitLists.{number_short}
 use Rattle.circuit_values.proofs.bits.fit_bits.Goals as goal
 
 pub returns-clause-none : goal.returns-clause-none

@@ -1,6 +1,6 @@
 use Rattle.std.proofs.Common.{◌<◌, ◌+◌, length, List, Bool, arith, sym, subst}
 use Rattle.std.specs.Str.Parse.{digits_value}
-use Rattle.circuit_values.proofs.BitLists.{HasDigits, digit_more}
+use Rattle.circuit_tables.proofs.BitLists.{HasDigits, digit_more}
 use Rattle.circuit_values.proofs.bits.hexadecimal_bits.Goals as goal
 
 pub loop-i-preserved : goal.loop-i-preserved

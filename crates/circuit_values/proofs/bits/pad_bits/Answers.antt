@@ -1,6 +1,6 @@
 use Rattle.std.proofs.Common.{◌∙◌, ap, arith}
 use Rattle.share_types.specs.Bits.{number}
-use Rattle.circuit_values.proofs.BitLists.{number_zero, bits_of_all}
+use Rattle.circuit_tables.proofs.BitLists.{number_zero, bits_of_all}
 use Rattle.circuit_values.proofs.bits.pad_bits.Goals as goal
 
 pub loop-bits-preserved : goal.loop-bits-preserved

@@ -2,7 +2,7 @@ use Rattle.std.proofs.Common.{◌≤◌, List, subst, sym}
 use Rattle.std.specs.Prelude.{All}
 use Rattle.std.proofs.lemmas.Result.{IfOk-weaker}
 use Rattle.mot_base.specs.Limits.{most_width}
-use Rattle.circuit_values.specs.Table.{Output}
+use Rattle.circuit_tables.specs.Table.{Output}
 use Rattle.motion_cli.proofs.CircuitLemmas.{mixed_narrow}
 use Rattle.motion_cli.proofs.circuit.mixed_outputs.Goals as goal
 

@@ -1,5 +1,5 @@
 use Rattle.std.proofs.Common.{List, ℕ, length, sym, ap, subst, arith}
-use Rattle.circuit_values.specs.Table.{Input, AreNamedApart}
+use Rattle.circuit_tables.specs.Table.{Input, AreNamedApart}
 use Rattle.bristol_reader.proofs.TableLemmas.{inputs_all, named_apart, have_widths}
 use Rattle.bristol_reader.proofs.circuit.Bristol.inputs.Goals as goal
 

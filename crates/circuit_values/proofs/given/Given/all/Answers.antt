@@ -4,7 +4,7 @@ use Rattle.std.specs.Option.{unwrap_or}
 use Rattle.std.proofs.lemmas.Iterator.{YieldsList-from_map_by}
 use Rattle.std.proofs.lemmas.Iterator.Consumers.{map_from_collect, YieldsList-at}
 use Rattle.std.proofs.lemmas.Iterator.Adapters.{YieldsList-from_vec}
-use Rattle.circuit_values.proofs.ListLemmas.{map_twice}
+use Rattle.circuit_tables.proofs.ListLemmas.{map_twice}
 use Rattle.circuit_values.proofs.given.Given.all.Goals as goal
 
 abbrev pub bits_of : Option (Vec Bool Global) → List Bool

@@ -1,6 +1,6 @@
 use Rattle.std.proofs.Common.{◌∙◌, ap, map, None, Option, List, Bool, Vec, Global, replicate, ◌≡◌, arith}
 use Rattle.std.specs.Prelude.{option_map}
-use Rattle.circuit_values.proofs.ListLemmas.{map_same}
+use Rattle.circuit_tables.proofs.ListLemmas.{map_same}
 use Rattle.circuit_values.proofs.given.Given.none.Goals as goal
 
 pub returns : goal.returns

@@ -1,7 +1,7 @@
 use Rattle.std.proofs.Common.{◌<◌, ◌≤◌, List, length, subst, sym, arith}
 use Rattle.std.specs.Prelude.{All}
 use Rattle.std.proofs.lemmas.List.Elements.{All-from_recursion}
-use Rattle.circuit_values.specs.Table.{Told}
+use Rattle.circuit_tables.specs.Table.{Told}
 use Rattle.mixed_circuit.proofs.TableLemmas.{told_next, told_all}
 use Rattle.mixed_circuit.proofs.WidthLemmas.{circuit_wide, told_narrow}
 use Rattle.mixed_circuit.proofs.circuit.Mixed.tell.Goals as goal

@@ -1,5 +1,5 @@
 use Rattle.std.proofs.Common.{None, refl}
-use Rattle.circuit_values.specs.Values.{HaveWidths}
+use Rattle.circuit_tables.specs.Values.{HaveWidths}
 use Rattle.bristol_reader.specs.Table as bristol
 use Rattle.bristol_reader.proofs.TableLemmas.{have_widths}
 use Rattle.motion_cli.specs.Circuits.{circuit_of, inputs_of}

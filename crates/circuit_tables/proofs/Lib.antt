@@ -1,0 +1,5 @@
+pub mod BitLists
+pub mod CutLemmas
+pub mod ListLemmas
+pub mod Narrow
+pub mod NumberLemmas

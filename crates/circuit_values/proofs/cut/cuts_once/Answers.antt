@@ -1,5 +1,0 @@
-use Rattle.circuit_values.proofs.CutLemmas.{cuts_once}
-use Rattle.circuit_values.proofs.cut.cuts_once.Goals as goal
-
-pub returns : goal.returns
-returns c = cuts_once

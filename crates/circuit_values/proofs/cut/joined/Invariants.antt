@@ -1,6 +1,0 @@
-use Rattle.std.proofs.Common.{◌≡◌, take}
-use Rattle.circuit_values.specs.Table.{joined_bits}
-use Rattle.circuit_values.proofs.cut.joined.Given as goal
-
-abbrev pub invariant-loop-vector : goal.invariant-loop-vector
-invariant-loop-vector l = l.bits.items ≡ joined_bits (take l.vector-index l.vectors)

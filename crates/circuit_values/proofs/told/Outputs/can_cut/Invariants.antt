@@ -1,7 +1,0 @@
-use Rattle.std.proofs.Common.{◌≡◌, ◌+◌, take}
-use Rattle.std.specs.List.{sum_by}
-use Rattle.circuit_values.specs.Table.{asked, total_width}
-use Rattle.circuit_values.proofs.told.Outputs.can_cut.Given as goal
-
-abbrev pub invariant-loop-vector : goal.invariant-loop-vector
-invariant-loop-vector l = l.left + sum_by (λ v. v.width) (take l.vector-index l.told) ≡ total_width (asked l.fn.party l.table)

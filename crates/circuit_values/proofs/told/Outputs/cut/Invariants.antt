@@ -1,5 +1,0 @@
-use Rattle.circuit_values.proofs.CutLemmas.{IsCutTo}
-use Rattle.circuit_values.proofs.told.Outputs.cut.Given as goal
-
-abbrev pub invariant-loop-at : goal.invariant-loop-at
-invariant-loop-at l = IsCutTo l.party l.table l.bits.items l.outputs l.taken l.at
