@@ -1,43 +1,19 @@
 -- Decimal words, and the numbers that they spell.
-use Rattle.std.proofs.Common.{ℕ, ◌≡◌, ◌<◌, ◌^◌, Bool, true, not, nat_lt, List, [], ◌∷◌, length, map, Some, None, refl, ◌∙◌, ap, cond, arith}
+use Rattle.std.proofs.Common.{ℕ, ◌≡◌, ◌<◌, ◌^◌, Bool, true, nat_lt, List, [], ◌∷◌, map, Some, None, refl, ◌∙◌, ap, cond}
 use Rattle.std.specs.Prelude.{option_map, option_and_then}
-use Rattle.std.specs.Char.{is_digit, digit_value}
 use Rattle.std.specs.List.{list_all}
-use Rattle.std.specs.Str.Parse.{digits_value, AllDigits}
+use Rattle.std.specs.Str.Parse.{digits_value}
 use Rattle.std.specs.Fmt.{decimal}
-use Rattle.std.proofs.lemmas.Bool.{and_from, and_parts, lt-ltb, ltb-true}
-use Rattle.std.proofs.lemmas.Bool.Decides.{nat_tests}
+use Rattle.std.proofs.lemmas.Bool.{and_from, and_parts, ltb-true}
 use Rattle.std.proofs.lemmas.Fmt.{decimal_is_IsNumeral}
 use Rattle.bristol_reader.specs.Line.{decimal_of, numbers_of}
-use Rattle.bristol_reader.proofs.JoinedLemmas.{is_plain, is_plain_word}
-use Rattle.text_lines.specs.Text.{Text, is_empty}
-use Rattle.text_lines.specs.Word.{are_digits}
-
-digit_plain : (c : ℕ) → digit_value c < 10 → is_plain c ≡ true
-digit_plain c h = grind (arith, nat_tests)
-
-digits_plain : (ds : Text) → AllDigits 10 ds → list_all is_plain ds ≡ true
-digits_plain [] h = refl
-digits_plain (c ∷ cs) h = and_from (is_plain c) (list_all is_plain cs) (digit_plain c h.0) (digits_plain cs h.1)
-
-digits_test : (ds : Text) → AllDigits 10 ds → list_all (λ b. is_digit b 10) ds ≡ true
-digits_test [] h = refl
-digits_test (c ∷ cs) h = and_from (is_digit c 10) (list_all (λ b. is_digit b 10) cs) (lt-ltb _ _ h.0) (digits_test cs h.1)
-
-not_empty : (ds : Text) → 0 < length ds → not (is_empty ds) ≡ true
-not_empty [] h = absurd (omega arith)
-not_empty (c ∷ cs) h = refl
-
-pub decimal_plain : (n : ℕ) → n < 2 ^ 64 → is_plain_word (decimal n) ≡ true
-decimal_plain n h =
-    let numeral = (decimal_is_IsNumeral n h).0 in
-    and_from (not (is_empty (decimal n))) (list_all is_plain (decimal n)) (not_empty (decimal n) numeral.0) (digits_plain (decimal n) numeral.1)
+use Rattle.text_lines.proofs.DecimalLemmas.{decimal_plain, decimal_digits}
+use Rattle.text_lines.proofs.JoinedLemmas.{is_plain_word}
 
 pub decimal_read : (n : ℕ) → n < 2 ^ 64 → decimal_of (decimal n) ≡ Some n
 decimal_read n h =
     let numeral = decimal_is_IsNumeral n h in
-    let digits : are_digits 10 (decimal n) ≡ true =
-    and_from (not (is_empty (decimal n))) (list_all (λ b. is_digit b 10) (decimal n)) (not_empty (decimal n) numeral.0.0) (digits_test (decimal n) numeral.0.1) in
+    let digits = decimal_digits n h in
     ap (λ (b : Bool). cond b (Some (digits_value 10 (decimal n))) None) digits ∙ ap Some numeral.1
 
 abbrev pub are_kept : List ℕ → Bool

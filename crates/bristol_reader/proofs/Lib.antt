@@ -13,7 +13,6 @@ pub mod EvalLemmas
 pub mod InputLemmas
 pub mod WidthLemmas
 pub mod TableLemmas
-pub mod JoinedLemmas
 pub mod WriteLemmas
 pub mod DecimalLemmas
 pub mod ReadCircuitLemmas

@@ -30,7 +30,7 @@ use Rattle.bristol_reader.proofs.WidthLemmas.{few_values}
 use Rattle.bristol_reader.proofs.ReadLemmas.{known, behind_known}
 use Rattle.text_lines.specs.LineReader.{Lead}
 use Rattle.text_lines.specs.Text.{Text, lines}
-use Rattle.bristol_reader.proofs.JoinedLemmas.{is_plain_word, is_inner, ended as ended_lines, joined_inner, joined_allowed, words_joined, lines_ended}
+use Rattle.text_lines.proofs.JoinedLemmas.{is_plain_word, is_inner, ended as ended_lines, joined_inner, joined_allowed, words_joined, lines_ended}
 
 -- ---- numbers of a circuit
 

@@ -9,6 +9,7 @@ use crate::kind::BristolKind;
 use crate::widths::Widths;
 use mot_base::NoMemory;
 use std::alloc::Global;
+use text_lines::{push_number, push_text};
 
 /// The canonical text of a circuit: single spaces, decimal numbers, no blank line, and a line end behind every line. It
 /// reads as that circuit again. It may be longer than the text that `read_bristol` takes.
@@ -30,9 +31,9 @@ pub fn write_bristol(alloc: Global, circuit: &Bristol) -> Result<Vec<u8>, NoMemo
 fn push_sizes(alloc: Global, out: &mut Vec<u8>, circuit: &Bristol) -> Result<(), NoMemory>
     ensures { OnOk result (out.new.items ≡ out.old.items ++ line_of (sizes_words circuit.now)) }
 {
-    push_number(alloc, out, circuit.len() as usize)?;
+    push_number(alloc, out, u64::from(circuit.len()))?;
     push_text(out, b" ")?;
-    push_number(alloc, out, circuit.wires() as usize)?;
+    push_number(alloc, out, u64::from(circuit.wires()))?;
     push_text(out, b"\n")
 }
 
@@ -40,7 +41,7 @@ fn push_sizes(alloc: Global, out: &mut Vec<u8>, circuit: &Bristol) -> Result<(),
 fn push_widths(alloc: Global, out: &mut Vec<u8>, widths: &Widths) -> Result<(), NoMemory>
     ensures { OnOk result (out.new.items ≡ out.old.items ++ line_of (widths_words widths.now)) }
 {
-    push_number(alloc, out, widths.len() as usize)?;
+    push_number(alloc, out, u64::from(widths.len()))?;
     push_spaced(alloc, out, widths.as_slice())?;
     push_text(out, b"\n")
 }
@@ -70,9 +71,9 @@ fn push_line(
 ) -> Result<(), NoMemory>
     ensures { OnOk result (out.new.items ≡ out.old.items ++ line_of (gate_words (a_gate kind ins.now outs.now))) }
 {
-    push_number(alloc, out, ins.len())?;
+    push_number(alloc, out, ins.len() as u64)?;
     push_text(out, b" ")?;
-    push_number(alloc, out, outs.len())?;
+    push_number(alloc, out, outs.len() as u64)?;
     push_spaced(alloc, out, ins)?;
     push_spaced(alloc, out, outs)?;
     push_text(out, b" ")?;
@@ -86,24 +87,7 @@ fn push_spaced(alloc: Global, out: &mut Vec<u8>, numbers: &[u32]) -> Result<(), 
 {
     for number in numbers {
         push_text(out, b" ")?;
-        push_number(alloc, out, *number as usize)?;
+        push_number(alloc, out, u64::from(*number))?;
     }
-    Ok(())
-}
-
-/// Adds a number in decimal at the end.
-fn push_number(alloc: Global, out: &mut Vec<u8>, number: usize) -> Result<(), NoMemory>
-    ensures { OnOk result (out.new.items ≡ out.old.items ++ decimal number) }
-{
-    let text = format!(in alloc; "{number}")?;
-    out.extend_from_slice(text.as_bytes())?;
-    Ok(())
-}
-
-/// Adds some bytes at the end.
-fn push_text(out: &mut Vec<u8>, text: &[u8]) -> Result<(), NoMemory>
-    ensures { OnOk result (out.new.items ≡ out.old.items ++ text.now) }
-{
-    out.extend_from_slice(text)?;
     Ok(())
 }

@@ -1,5 +1,5 @@
 -- How the bytes of a link are cut into frames.
-use Rattle.std.specs.Prelude.{◌≡◌, ℕ, ◌+◌, ◌<◌, Bool, ◌||◌, ◌==◌, List, [], ◌∷◌, ◌++◌, length, Option, Some, None, nat_lt, nat_le, slice_index, if◌then◌else◌}
+use Rattle.std.specs.Prelude.{◌≡◌, ℕ, ◌+◌, ◌<◌, Bool, true, false, ◌||◌, ◌==◌, List, [], ◌∷◌, ◌++◌, length, Option, Some, None, nat_lt, nat_le, slice_index, if◌then◌else◌}
 use Rattle.std.specs.List.{AllByRecursion}
 use Rattle.std.specs.Option.{option_or}
 use Rattle.byteorder.specs.Endian.{big_number}
@@ -85,6 +85,12 @@ abbrev pub fault_of : Progress → Option FrameFault
 fault_of (Waiting rest) = None
 fault_of (Faulty fault) = Some fault
 fault_of Ended = None
+
+-- whether End was read
+abbrev pub has_ended : Progress → Bool
+has_ended (Waiting rest) = false
+has_ended (Faulty fault) = false
+has_ended Ended = true
 
 -- no more frames come, whatever the bytes to come are
 abbrev pub IsStopped : Progress → Type 0

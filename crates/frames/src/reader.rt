@@ -1,6 +1,6 @@
 ghost use Rattle.std.specs.Prelude.{◌≡◌, ◌<◌, ◌≤◌, ◌+◌, ◌-◌, max, List, ℕ, [], ◌++◌, length, take, IfOk, OnOk, OnErr};
 ghost use Rattle.frames.specs.declared.frame.Frame.{Frame};
-ghost use Rattle.frames.specs.Reading.{frame_length, IsPartial, Reads, Waiting, fault_of, waiting, IsStopped};
+ghost use Rattle.frames.specs.Reading.{frame_length, IsPartial, Reads, Waiting, fault_of, has_ended, waiting, IsStopped};
 ghost use Rattle.frames.specs.Steps.{GoesOn, left_progress, progress, IsHeld};
 
 use crate::cut::{Front, Left, cut, fault_at, frame_length, look};
@@ -90,6 +90,16 @@ impl Reader {
                 self.held.truncate(before);
                 Err(NoMemory)
             }
+        }
+    }
+
+    /// Whether End was read.
+    pub fn has_ended(&self) -> bool
+        ensures { result ≡ has_ended self.now }
+    {
+        match self.phase {
+            Phase::Reading | Phase::Faulty(_) => false,
+            Phase::Ended => true,
         }
     }
 

@@ -5,7 +5,7 @@ ghost use Rattle.std.specs.Option.{option_copied};
 ghost use Rattle.message_demux.specs.declared.slots.SlotSpec.{SlotSpec};
 ghost use Rattle.message_demux.specs.Fit.{Fits, unfit};
 ghost use Rattle.message_demux.specs.Inbox.{empty_inbox, with_payload, refusal, differs, kept_before, after, is_missing, missing, kept_bytes};
-ghost use Rattle.message_demux.specs.Slots.{slot_at, IsSlotSpec, IsSlotList};
+ghost use Rattle.message_demux.specs.Slots.{slot_at, IsPlaceOf, IsSlotSpec, IsSlotList};
 
 use crate::slots::{Slot, SlotSpec, has_high_bits, place_of};
 use mot_base::{NoMemory, Party, Payload};
@@ -137,6 +137,14 @@ impl Inbox {
     {
         let place = place_of(&self.specs, slot)?;
         self.payloads[place].as_ref()
+    }
+
+    /// Where a slot stands in the list of expected messages, if it does.
+    pub fn place(&self, slot: Slot) -> Option<u32>
+        ensures { IsPlaceOf self.now.slots slot result }
+    {
+        let place = place_of(&self.specs, slot)?;
+        Some(place as u32)
     }
 
     /// The first slot of a sender for which nothing is kept.

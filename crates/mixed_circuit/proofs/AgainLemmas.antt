@@ -17,8 +17,9 @@ use Rattle.mixed_circuit.specs.Line.{Parts, no_parts, is_letter_of, is_spelled, 
 use Rattle.mixed_circuit.specs.Stated.{AreWhole}
 use Rattle.mixed_circuit.specs.Table.{name_at}
 use Rattle.mixed_circuit.specs.Written.{letter_word, slot_word, slot_words, places_behind}
-use Rattle.mixed_circuit.proofs.JoinedLemmas.{is_plain_word}
-use Rattle.mixed_circuit.proofs.SlotLemmas.{IsSmall, name_plain, some_named, decimal_plain, letter_read, letter_plain, letter_stated, owner_plain, owner_stated, told_plain, told_stated, width_stated, place_stated, constant_stated}
+use Rattle.text_lines.proofs.JoinedLemmas.{is_plain_word}
+use Rattle.mixed_circuit.proofs.SlotLemmas.{IsSmall, name_plain, some_named, letter_read, letter_plain, letter_stated, owner_plain, owner_stated, told_plain, told_stated, width_stated, place_stated, constant_stated}
+use Rattle.text_lines.proofs.DecimalLemmas.{decimal_plain}
 use Rattle.text_lines.proofs.WordLemmas.{both, both_true}
 use Rattle.text_lines.specs.Text.{Text}
 use Rattle.text_lines.specs.Word.{is_name}

@@ -14,7 +14,6 @@ pub mod TableLemmas
 pub mod WidthLemmas
 pub mod EvalLemmas
 pub mod WriteLemmas
-pub mod JoinedLemmas
 pub mod SlotLemmas
 pub mod AgainLemmas
 pub mod SaidAgainLemmas

@@ -14,8 +14,9 @@ use Rattle.mixed_circuit.specs.Said.{IsSaid, IsCircuit}
 use Rattle.mixed_circuit.specs.Grammar.{circuits, adds, behind, behind_words, parties_of, Reads}
 use Rattle.mixed_circuit.specs.Written.{statement_words, line_of, headers, canonical}
 use Rattle.mixed_circuit.proofs.CircuitLemmas.{fields}
-use Rattle.mixed_circuit.proofs.JoinedLemmas.{is_plain_word, is_inner, ended, joined_inner, joined_allowed, line_words_joined, lines_ended}
-use Rattle.mixed_circuit.proofs.SlotLemmas.{decimal_plain, decimal_within}
+use Rattle.text_lines.proofs.JoinedLemmas.{is_plain_word, is_inner, ended, joined_inner, joined_allowed, line_words_joined, lines_ended}
+use Rattle.mixed_circuit.proofs.SlotLemmas.{decimal_within}
+use Rattle.text_lines.proofs.DecimalLemmas.{decimal_plain}
 use Rattle.mixed_circuit.proofs.SaidAgainLemmas.{SaysAgain, says_again}
 use Rattle.text_lines.specs.LineReader.{Lead}
 use Rattle.text_lines.specs.Text.{Text, lines}

@@ -25,7 +25,7 @@ use Rattle.mixed_circuit.proofs.EarlierLemmas.{operand_found}
 use Rattle.mixed_circuit.proofs.NameLemmas.{each_row}
 use Rattle.mixed_circuit.proofs.PlaceLemmas.{place_of-named}
 use Rattle.mixed_circuit.proofs.SaysLemmas.{said-by, operation_of-listed, parts_again, resolved_again, said_again, then_operand}
-use Rattle.mixed_circuit.proofs.JoinedLemmas.{is_plain_word}
+use Rattle.text_lines.proofs.JoinedLemmas.{is_plain_word}
 use Rattle.mixed_circuit.proofs.SlotLemmas.{IsSmall, keywords_plain, letter_read}
 use Rattle.mixed_circuit.proofs.AgainLemmas.{IsKnown, line_read}
 use Rattle.text_lines.specs.Text.{Text}

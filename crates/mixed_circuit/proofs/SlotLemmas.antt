@@ -19,7 +19,8 @@ use Rattle.mixed_circuit.specs.Language.{operations, word_of}
 use Rattle.mixed_circuit.specs.Line.{Parts, letter_of, is_letter_of, number_within, with_word}
 use Rattle.mixed_circuit.specs.Stated.{IsSomeName}
 use Rattle.mixed_circuit.specs.Written.{letter_word, told_word}
-use Rattle.mixed_circuit.proofs.JoinedLemmas.{is_plain, is_plain_word, implied_all}
+use Rattle.text_lines.proofs.DecimalLemmas.{decimal_plain, decimal_digits}
+use Rattle.text_lines.proofs.JoinedLemmas.{is_plain, is_plain_word, implied_all}
 use Rattle.text_lines.proofs.WordLemmas.{both, both_true}
 use Rattle.text_lines.specs.Text.{Text, is_empty}
 use Rattle.text_lines.specs.Word.{is_name, is_letter, are_digits, begins_hexadecimal, number_in, number_of}
@@ -48,28 +49,6 @@ some_named (Some name) h = (h, refl)
 
 -- ---- decimal numbers
 
-digit_plain : (c : ℕ) → digit_value c < 10 → is_plain c ≡ true
-digit_plain c h = grind (arith, nat_tests)
-
-digits_plain : (ds : Text) → AllDigits 10 ds → list_all is_plain ds ≡ true
-digits_plain [] h = refl
-digits_plain (c ∷ cs) h = both (is_plain c) (list_all is_plain cs) (digit_plain c h.0) (digits_plain cs h.1)
-
-digits_test : (ds : Text) → AllDigits 10 ds → list_all (λ b. is_digit b 10) ds ≡ true
-digits_test [] h = refl
-digits_test (c ∷ cs) h =
-    both (is_digit c 10) (list_all (λ b. is_digit b 10) cs) (lt-ltb _ _ h.0) (digits_test cs h.1)
-
-not_empty : (ds : Text) → 0 < length ds → not (is_empty ds) ≡ true
-not_empty [] h = absurd (omega arith)
-not_empty (c ∷ cs) h = refl
-
-pub decimal_plain : (n : ℕ) → n < 2 ^ 64 → is_plain_word (decimal n) ≡ true
-decimal_plain n h =
-    let numeral = (decimal_is_IsNumeral n h).0 in
-    both (not (is_empty (decimal n))) (list_all is_plain (decimal n)) (not_empty (decimal n) numeral.0)
-    (digits_plain (decimal n) numeral.1)
-
 -- no digit is an `x`
 second_no_x : (a b : ℕ) → digit_value b < 10 → (a == 48 && b == 120) ≡ false
 second_no_x a b h = grind (arith, nat_tests)
@@ -82,9 +61,7 @@ not_hexadecimal (c ∷ d ∷ ds) h = second_no_x c d h.1.0
 pub decimal_read : (n : ℕ) → n < 2 ^ 64 → number_of (decimal n) ≡ Some n
 decimal_read n h =
     let numeral = decimal_is_IsNumeral n h in
-    let digits : are_digits 10 (decimal n) ≡ true =
-    both (not (is_empty (decimal n))) (list_all (λ b. is_digit b 10) (decimal n))
-    (not_empty (decimal n) numeral.0.0) (digits_test (decimal n) numeral.0.1) in
+    let digits = decimal_digits n h in
     let fits : nat_lt (digits_value 10 (decimal n)) (2 ^ 64) ≡ true =
     ap (λ (m : ℕ). nat_lt m (2 ^ 64)) numeral.1 ∙ lt-ltb n (2 ^ 64) h in
     ap (λ (b : Bool). cond b (number_in 16 (drop 2 (decimal n))) (number_in 10 (decimal n)))

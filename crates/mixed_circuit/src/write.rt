@@ -13,6 +13,7 @@ use crate::row::{Row, row_of};
 use mot_base::{NoMemory, Party};
 use share_types::Sharing;
 use std::alloc::Global;
+use text_lines::{push_number, push_text};
 
 /// The canonical text of a circuit: single spaces, decimal numbers, no blank line, no comment, and a line end behind
 /// every line. It reads as that circuit again. It may be longer than the text that `read_mixed` takes.
@@ -135,23 +136,6 @@ fn push_slot(
         Slot::Operand => push_operand(out, circuit, places),
         Slot::Told => push_told(alloc, out, row.party),
     }
-}
-
-/// Adds some bytes at the end.
-fn push_text(out: &mut Vec<u8>, text: &[u8]) -> Result<(), NoMemory>
-    ensures { OnOk result (out.new.items ≡ out.old.items ++ text.now) }
-{
-    out.extend_from_slice(text)?;
-    Ok(())
-}
-
-/// Adds a number in decimal at the end.
-fn push_number(alloc: Global, out: &mut Vec<u8>, number: u64) -> Result<(), NoMemory>
-    ensures { OnOk result (out.new.items ≡ out.old.items ++ decimal number) }
-{
-    let text = format!(in alloc; "{number}")?;
-    out.extend_from_slice(text.as_bytes())?;
-    Ok(())
 }
 
 /// Adds the number of the party whose input it is at the end.

@@ -3,3 +3,5 @@ pub mod WordLemmas
 pub mod LineLemmas
 pub mod ReaderLemmas
 pub mod ChainLemmas
+pub mod JoinedLemmas
+pub mod DecimalLemmas

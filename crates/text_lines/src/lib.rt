@@ -3,6 +3,8 @@
 
 mod line;
 mod word;
+mod written;
 
 pub use line::{Lines, are_allowed, line_words_of, words_of};
 pub use word::{is_name_word, is_numeral, name_text, number, text_of};
+pub use written::{push_number, push_text};
