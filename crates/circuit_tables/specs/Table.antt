@@ -1,14 +1,11 @@
 -- Tables of a circuit's inputs and outputs, and what of the outputs a party is told.
 use Rattle.std.specs.Prelude.{ℕ, ◌≡◌, ◌+◌, Bool, true, List, [], ◌∷◌, slice_get, length, map, filter, flat_map, Option, Some, None}
 use Rattle.mot_base.specs.declared.Party.{Party}
+use Rattle.mot_base.specs.Names.{Name}
 use Rattle.share_types.specs.declared.bits.Bits.{Bits}
 use Rattle.share_types.specs.Bits as vector
 use Rattle.share_types.specs.declared.receiver.Receiver.{Receiver}
 use Rattle.share_types.specs.Wires.{includes}
-
--- a name: its bytes
-abbrev pub Name : Type 0
-Name = List ℕ
 
 -- an input: its name, the party whose value it is, and how many bits the value has
 pub record Input : Type 0 where

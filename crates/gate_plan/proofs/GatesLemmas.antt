@@ -7,15 +7,15 @@ use Rattle.std.proofs.lemmas.List.{length-append}
 use Rattle.share_types.specs.declared.sharing.Sharing.{Sharing}
 use Rattle.share_types.specs.declared.sharing.Sharing.TheVariants as sharing
 use Rattle.share_types.specs.declared.sharing.WireType.{WireType}
-use Rattle.mixed_circuit.specs.declared.language.Operation.{Operation}
-use Rattle.mixed_circuit.specs.declared.language.Operation.TheVariants.{InputWord, InputBits, ConstWord, ConstBits, Add, Sub, Mul, AddConst, MulConst, Xor, And, Not, Slice, Join, A2Y, A2B, B2Y, Y2B, B2A, Y2A, Output}
-use Rattle.mixed_circuit.specs.Language.{domain_of, is_in, gives, states, is_name_slot}
-use Rattle.mixed_circuit.specs.Circuit.{Circuit, Statement, wire_at}
+use Rattle.mixed_language.specs.declared.language.Operation.{Operation}
+use Rattle.mixed_language.specs.declared.language.Operation.TheVariants.{InputWord, InputBits, ConstWord, ConstBits, Add, Sub, Mul, AddConst, MulConst, Xor, And, Not, Slice, Join, A2Y, A2B, B2Y, Y2B, B2A, Y2A, Output}
+use Rattle.mixed_language.specs.Language.{domain_of, is_in, gives, states, is_name_slot}
+use Rattle.mixed_language.specs.Circuit.{Circuit, Statement, wire_at}
 use Rattle.share_types.specs.Wires.{wire_type, width_of}
-use Rattle.mixed_circuit.specs.Said.{IsCircuit}
-use Rattle.mixed_circuit.specs.Table.{told_value}
-use Rattle.mixed_circuit.proofs.ListLemmas.{same_some}
-use Rattle.mixed_circuit.proofs.WidthLemmas.{took}
+use Rattle.mixed_language.specs.Valid.{IsCircuit}
+use Rattle.mixed_language.specs.Table.{told_value}
+use Rattle.mot_base.proofs.Lists.{same_some}
+use Rattle.mixed_language.proofs.WidthLemmas.{took}
 use Rattle.plan_gates.specs.Gate as plan
 use Rattle.plan_gates.specs.Gate.{Kind, Gate}
 use Rattle.gate_plan.specs.Lowering.{Source, kind_made, source_of, handled_by, wire_handled, width_handled, is_keys, is_conversion, is_built, all_built, gates_of, gates_in, gates_before, gate_list, expansion, lowered_before}

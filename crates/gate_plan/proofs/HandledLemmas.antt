@@ -2,9 +2,9 @@
 use Rattle.std.proofs.Common.{ℕ, ◌≡◌, List, Option, Some, None}
 use Rattle.std.specs.Prelude.{slice_get, IfSome, option_map, option_and_then}
 use Rattle.share_types.specs.declared.sharing.WireType.{WireType}
-use Rattle.mixed_circuit.specs.Circuit.{Statement}
-use Rattle.mixed_circuit.specs.Wide.{IsWide, AllWide}
-use Rattle.mixed_circuit.proofs.ListLemmas.{same_some}
+use Rattle.mixed_language.specs.Circuit.{Statement}
+use Rattle.mixed_language.specs.Wide.{IsWide, AllWide}
+use Rattle.mot_base.proofs.Lists.{same_some}
 
 pub wide_wire : (all : List Statement) (place : ℕ) (wire : Option WireType) → AllWide all →
     option_map (λ s. s.wire) (slice_get all place) ≡ Some wire → IfSome wire (λ w. IsWide w)

@@ -12,19 +12,19 @@ use Rattle.mot_base.specs.Limits.{most_width}
 use Rattle.share_types.specs.Bits.{bits}
 use Rattle.share_types.specs.declared.sharing.WireType.{WireType}
 use Rattle.circuit_tables.specs.Table.{Told}
-use Rattle.mixed_circuit.specs.declared.language.Operation.{Operation}
-use Rattle.mixed_circuit.specs.declared.language.Operation.TheVariants.{InputWord, InputBits, ConstWord, ConstBits, Add, Sub, Mul, AddConst, MulConst, Xor, And, Not, Slice, Join, A2Y, A2B, B2Y, Y2B, B2A, Y2A, Output}
-use Rattle.mixed_circuit.specs.declared.operand.Operand.{Operand}
-use Rattle.mixed_circuit.specs.Language.{gives, states, is_name_slot, is_told_slot, arity_of}
-use Rattle.mixed_circuit.specs.Circuit.{Circuit, Statement, wire_at}
+use Rattle.mixed_language.specs.declared.language.Operation.{Operation}
+use Rattle.mixed_language.specs.declared.language.Operation.TheVariants.{InputWord, InputBits, ConstWord, ConstBits, Add, Sub, Mul, AddConst, MulConst, Xor, And, Not, Slice, Join, A2Y, A2B, B2Y, Y2B, B2A, Y2A, Output}
+use Rattle.mixed_language.specs.declared.operand.Operand.{Operand}
+use Rattle.mixed_language.specs.Language.{gives, states, is_name_slot, is_told_slot, arity_of}
+use Rattle.mixed_language.specs.Circuit.{Circuit, Statement, wire_at}
 use Rattle.share_types.specs.Wires.{wire_type, width_of}
-use Rattle.mixed_circuit.specs.Said.{IsCircuit}
-use Rattle.mixed_circuit.specs.Table.{inputs_of, told_value, name_at, receiver_of}
-use Rattle.mixed_circuit.specs.Table as table
-use Rattle.mixed_circuit.specs.Eval.{IsEvaluated, number_made, value_made, value_of_statement, width_given_by, told_by, told_among, told_of}
-use Rattle.mixed_circuit.specs.Eval as eval
-use Rattle.mixed_circuit.proofs.WidthLemmas.{circuit_wide}
-use Rattle.mixed_circuit.proofs.ListLemmas.{same_some, take_next}
+use Rattle.mixed_language.specs.Valid.{IsCircuit}
+use Rattle.mixed_language.specs.Table.{inputs_of, told_value, name_at, receiver_of}
+use Rattle.mixed_language.specs.Table as table
+use Rattle.mixed_language.specs.Eval.{IsEvaluated, number_made, value_made, value_of_statement, width_given_by, told_by, told_among, told_of}
+use Rattle.mixed_language.specs.Eval as eval
+use Rattle.mixed_language.proofs.WidthLemmas.{circuit_wide}
+use Rattle.mot_base.proofs.Lists.{same_some, take_next}
 use Rattle.plan_gates.specs.Gate as plan
 use Rattle.plan_gates.specs.Gate.{Kind, Gate, width_at}
 use Rattle.plan_gates.specs.Plain.{number_of, seen_of, gate_number, number_at, plain_before, GateTold, told_entry, plain_numbers}

@@ -4,16 +4,16 @@ use Rattle.std.specs.Prelude.{slice_get, IfSome, option_map, if◌then◌else◌
 use Rattle.std.specs.List.{list_all}
 use Rattle.share_types.specs.declared.sharing.Sharing.{Sharing}
 use Rattle.share_types.specs.declared.sharing.WireType.{WireType}
-use Rattle.mixed_circuit.specs.declared.language.Operation.{Operation}
-use Rattle.mixed_circuit.specs.declared.language.Operation.TheVariants.{InputWord, InputBits, ConstWord, ConstBits, Add, Sub, Mul, AddConst, MulConst, Xor, And, Not, Slice, Join, A2Y, A2B, B2Y, Y2B, B2A, Y2A, Output}
-use Rattle.mixed_circuit.specs.declared.operand.Operand.{Operand}
-use Rattle.mixed_circuit.specs.Language.{domain_of, widths_of, is_in, gives, states, is_name_slot, is_letter_slot, is_width_slot, arity_of}
-use Rattle.mixed_circuit.specs.Circuit.{Circuit, Statement, wire_at}
+use Rattle.mixed_language.specs.declared.language.Operation.{Operation}
+use Rattle.mixed_language.specs.declared.language.Operation.TheVariants.{InputWord, InputBits, ConstWord, ConstBits, Add, Sub, Mul, AddConst, MulConst, Xor, And, Not, Slice, Join, A2Y, A2B, B2Y, Y2B, B2A, Y2A, Output}
+use Rattle.mixed_language.specs.declared.operand.Operand.{Operand}
+use Rattle.mixed_language.specs.Language.{domain_of, widths_of, is_in, gives, states, is_name_slot, is_letter_slot, is_width_slot, arity_of}
+use Rattle.mixed_language.specs.Circuit.{Circuit, Statement, wire_at}
 use Rattle.share_types.specs.Wires.{sharing_of, is_shared, wire_type}
 use Rattle.mixed_circuit.specs.Line.{Parts, operand_of, operands_of, sharing_given, width_given, is_party}
-use Rattle.mixed_circuit.specs.Said.{IsSaid}
+use Rattle.mixed_language.specs.Valid.{IsSaid}
 use Rattle.mixed_circuit.specs.Stated.{AreWhole, IsSomeName}
-use Rattle.mixed_circuit.proofs.ListLemmas.{same_some}
+use Rattle.mot_base.proofs.Lists.{same_some}
 use Rattle.mixed_circuit.proofs.SaysLemmas.{said-by, sharing_in_domain, operands_count, then_operand}
 use Rattle.mixed_circuit.proofs.EarlierLemmas.{operand_found}
 use Rattle.std.proofs.lemmas.Bool.{ltb-true}
@@ -93,7 +93,7 @@ all_get test (y ∷ ys) h (suc i) x e = all_get test ys (rest (test y) (list_all
     rest false b h = cc
 
 -- where the line has no letter, all operands are shared alike
-all_shared : (xs : List Operand) (sharing : Sharing) (domain : Rattle.mixed_circuit.specs.declared.language.Domain.Domain) →
+all_shared : (xs : List Operand) (sharing : Sharing) (domain : Rattle.mixed_language.specs.declared.language.Domain.Domain) →
     sharing_given domain None xs ≡ Some sharing → (i : ℕ) (x : Operand) → slice_get xs i ≡ Some x → is_shared sharing x.wire ≡ true
 all_shared [] sharing domain h i x e = cc
 all_shared (y ∷ ys) sharing domain h i x e =

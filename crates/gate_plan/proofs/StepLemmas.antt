@@ -6,18 +6,18 @@ use Rattle.std.proofs.lemmas.Option.{slice_get_within, slice_get-map}
 use Rattle.share_types.specs.declared.sharing.Sharing.{Sharing}
 use Rattle.share_types.specs.declared.sharing.Sharing.TheVariants as sharing
 use Rattle.share_types.specs.declared.sharing.WireType.{WireType}
-use Rattle.mixed_circuit.specs.declared.language.Operation.{Operation}
-use Rattle.mixed_circuit.specs.declared.language.Operation.TheVariants.{ConstBits}
-use Rattle.mixed_circuit.specs.declared.operand.Operand.{Operand}
-use Rattle.mixed_circuit.specs.Language.{gives, states, is_name_slot, widths_of, arity_of, domain_of, is_in}
+use Rattle.mixed_language.specs.declared.language.Operation.{Operation}
+use Rattle.mixed_language.specs.declared.language.Operation.TheVariants.{ConstBits}
+use Rattle.mixed_language.specs.declared.operand.Operand.{Operand}
+use Rattle.mixed_language.specs.Language.{gives, states, is_name_slot, widths_of, arity_of, domain_of, is_in}
 use Rattle.mixed_circuit.specs.Line.{width_given}
-use Rattle.mixed_circuit.specs.Circuit.{Circuit, Statement, Shape, wire_at}
+use Rattle.mixed_language.specs.Circuit.{Circuit, Statement, Shape, wire_at}
 use Rattle.share_types.specs.Wires.{wire_type, width_of, party_told}
-use Rattle.mixed_circuit.specs.Said.{IsCircuit}
-use Rattle.mixed_circuit.specs.Wide.{IsWide}
-use Rattle.mixed_circuit.specs.Table.{inputs_of, told_value, receiver_of}
-use Rattle.mixed_circuit.proofs.ListLemmas.{same_some}
-use Rattle.mixed_circuit.proofs.WidthLemmas.{circuit_wide, took}
+use Rattle.mixed_language.specs.Valid.{IsCircuit}
+use Rattle.mixed_language.specs.Wide.{IsWide}
+use Rattle.mixed_language.specs.Table.{inputs_of, told_value, receiver_of}
+use Rattle.mot_base.proofs.Lists.{same_some}
+use Rattle.mixed_language.proofs.WidthLemmas.{circuit_wide, took}
 use Rattle.plan_gates.specs.declared.gate.GateKind.{GateKind}
 use Rattle.plan_gates.specs.Gate.{Kind, kind_of}
 use Rattle.plan_gates.specs.Plan.{IsGate}

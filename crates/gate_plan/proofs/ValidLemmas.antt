@@ -10,16 +10,17 @@ use Rattle.share_types.specs.declared.sharing.Sharing.{Sharing}
 use Rattle.share_types.specs.declared.sharing.Sharing.TheVariants as sharing
 use Rattle.share_types.specs.declared.sharing.WireType.{WireType}
 use Rattle.share_types.specs.declared.sharing.WireType.TheVariants as wire
-use Rattle.mixed_circuit.specs.declared.language.Operation.{Operation}
-use Rattle.mixed_circuit.specs.declared.language.Operation.TheVariants.{InputWord, InputBits, ConstWord, ConstBits, Add, Sub, Mul, AddConst, MulConst, Xor, And, Not, Slice, Join, A2Y, A2B, B2Y, Y2B, B2A, Y2A, Output}
-use Rattle.mixed_circuit.specs.declared.operand.Operand.{Operand}
-use Rattle.mixed_circuit.specs.declared.language.Widths.TheVariants.{Cut, Joined}
-use Rattle.mixed_circuit.specs.Language.{domain_of, widths_of, is_in, gives, arity_of, states, is_name_slot, is_width_slot}
-use Rattle.mixed_circuit.specs.Circuit.{Statement, wire_at}
+use Rattle.mixed_language.specs.declared.language.Operation.{Operation}
+use Rattle.mixed_language.specs.declared.language.Operation.TheVariants.{InputWord, InputBits, ConstWord, ConstBits, Add, Sub, Mul, AddConst, MulConst, Xor, And, Not, Slice, Join, A2Y, A2B, B2Y, Y2B, B2A, Y2A, Output}
+use Rattle.mixed_language.specs.declared.operand.Operand.{Operand}
+use Rattle.mixed_language.specs.declared.language.Widths.TheVariants.{Cut, Joined}
+use Rattle.mixed_language.specs.Language.{domain_of, widths_of, is_in, gives, arity_of, states, is_name_slot, is_width_slot}
+use Rattle.mixed_language.specs.Circuit.{Statement, wire_at}
 use Rattle.share_types.specs.Wires.{is_shared, wire_type, width_of, party_told}
-use Rattle.mixed_circuit.specs.Line.{Parts, width_given, alike_width}
-use Rattle.mixed_circuit.specs.Wide.{IsWide}
-use Rattle.mixed_circuit.proofs.ListLemmas.{same_some}
+use Rattle.mixed_circuit.specs.Line.{Parts, width_given}
+use Rattle.mixed_language.specs.Operands.{alike_width}
+use Rattle.mixed_language.specs.Wide.{IsWide}
+use Rattle.mot_base.proofs.Lists.{same_some}
 use Rattle.plan_gates.specs.Gate as plan
 use Rattle.plan_gates.specs.Gate.{Kind, Gate, Given, Word, Vector, width_at}
 use Rattle.plan_gates.specs.Plan.{IsOperand, IsGate}

@@ -1,8 +1,8 @@
 -- That lowering keeps the plain evaluation.
 use Rattle.std.specs.Prelude.{ℕ, ◌≡◌, List, map, slice_get, Some}
 use Rattle.circuit_tables.specs.Table.{Told}
-use Rattle.mixed_circuit.specs.Circuit.{Circuit}
-use Rattle.mixed_circuit.specs.Eval.{IsEvaluated, told_of}
+use Rattle.mixed_language.specs.Circuit.{Circuit}
+use Rattle.mixed_language.specs.Eval.{IsEvaluated, told_of}
 use Rattle.plan_gates.specs.Plan.{Gates}
 use Rattle.plan_gates.specs.Plain.{GateTold, told_by, plain_numbers}
 use Rattle.gate_plan.specs.Lowering.{gates_before}

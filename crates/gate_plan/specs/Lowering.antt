@@ -4,11 +4,11 @@ use Rattle.std.specs.List.{list_all}
 use Rattle.std.specs.Option.{unwrap_or}
 use Rattle.share_types.specs.declared.sharing.WireType.{WireType}
 use Rattle.share_types.specs.declared.sharing.WireType.TheVariants as wire
-use Rattle.mixed_circuit.specs.declared.language.Operation.{Operation}
-use Rattle.mixed_circuit.specs.declared.language.Operation.TheVariants.{InputWord, InputBits, ConstWord, ConstBits, Add, Sub, Mul, AddConst, MulConst, Xor, And, Not, Slice, Join, A2Y, A2B, B2Y, Y2B, B2A, Y2A, Output}
-use Rattle.mixed_circuit.specs.Circuit.{Circuit, Statement, Shape, wire_at}
+use Rattle.mixed_language.specs.declared.language.Operation.{Operation}
+use Rattle.mixed_language.specs.declared.language.Operation.TheVariants.{InputWord, InputBits, ConstWord, ConstBits, Add, Sub, Mul, AddConst, MulConst, Xor, And, Not, Slice, Join, A2Y, A2B, B2Y, Y2B, B2A, Y2A, Output}
+use Rattle.mixed_language.specs.Circuit.{Circuit, Statement, Shape, wire_at}
 use Rattle.share_types.specs.Wires.{width_of}
-use Rattle.mixed_circuit.specs.Table.{inputs_of, told_value, receiver_of}
+use Rattle.mixed_language.specs.Table.{inputs_of, told_value, receiver_of}
 use Rattle.share_types.specs.declared.receiver.Receiver.{Receiver}
 use Rattle.plan_gates.specs.Gate.{Kind, Gate, InA, ConstA, AddA, SubA, AddConstA, MulConstA, MulA, OutA, InB, ConstB, XorB, XorConstB, SliceB, JoinB, AndB, OutB}
 use Rattle.plan_gates.specs.Plan.{Gates}

@@ -1,8 +1,8 @@
 ghost use Rattle.std.specs.Prelude.{◌≡◌, ℕ, ◌<◌, ◌≤◌, ◌+◌, ◌^◌, ◌↔◌, true, false, length, take, slice_get, option_map, Some, None, IfOk, IfSome, IsErrOf};
 ghost use Rattle.mot_base.specs.Limits.{least_parties, most_parties, most_width, most_gates};
-ghost use Rattle.mixed_circuit.specs.Circuit.{shape_of};
-ghost use Rattle.mixed_circuit.specs.Said.{IsCircuit};
-ghost use Rattle.mixed_circuit.specs.Table.{inputs_of};
+ghost use Rattle.mixed_language.specs.Circuit.{shape_of};
+ghost use Rattle.mixed_language.specs.Valid.{IsCircuit};
+ghost use Rattle.mixed_language.specs.Table.{inputs_of};
 ghost use Rattle.gate_plan.specs.Lowering.{wire_handled, is_keys, gates_of, gates_in, all_gates, is_built, all_built, lowered_to, lowered};
 ghost use Rattle.gate_plan.specs.Keeps.{KeepsEvaluation};
 

@@ -2,12 +2,12 @@
 
 ghost use Rattle.std.specs.Prelude.{◌≡◌, ◌<◌, ◌≤◌, ◌-◌, ◌^◌, length, slice_get, slice_index, option_map, Some, None, IfSome, if◌then◌else◌};
 ghost use Rattle.mot_base.specs.Limits.{most_width};
-ghost use Rattle.mixed_circuit.specs.declared.language.Operation.TheVariants.{ConstBits};
-ghost use Rattle.mixed_circuit.specs.Circuit.{shape_of};
+ghost use Rattle.mixed_language.specs.declared.language.Operation.TheVariants.{ConstBits};
+ghost use Rattle.mixed_language.specs.Circuit.{shape_of};
 ghost use Rattle.share_types.specs.Wires.{width_of};
-ghost use Rattle.mixed_circuit.specs.Said.{AreEarlier};
-ghost use Rattle.mixed_circuit.specs.Eval.{inputs_taken};
-ghost use Rattle.mixed_circuit.specs.Wide.{IsWide};
+ghost use Rattle.mixed_language.specs.Valid.{AreEarlier};
+ghost use Rattle.mixed_language.specs.Eval.{inputs_taken};
+ghost use Rattle.mixed_language.specs.Wide.{IsWide};
 ghost use Rattle.plan_gates.specs.Gate.{OutA, OutB, kind_of, stated_width};
 ghost use Rattle.gate_plan.specs.Lowering.{handled_by, wire_handled, is_word, kind_made, source_by};
 

@@ -9,16 +9,16 @@ use Rattle.share_types.specs.declared.sharing.Sharing.TheVariants as sharing
 use Rattle.share_types.specs.declared.sharing.WireType.{WireType}
 use Rattle.share_types.specs.declared.receiver.Receiver.TheVariants.{All}
 use Rattle.circuit_tables.specs.Table.{Input}
-use Rattle.mixed_circuit.specs.declared.language.Operation.{Operation}
-use Rattle.mixed_circuit.specs.declared.language.Operation.TheVariants.{InputWord, InputBits, ConstWord, ConstBits, Add, Sub, Mul, AddConst, MulConst, Xor, And, Not, Slice, Join, A2Y, A2B, B2Y, Y2B, B2A, Y2A, Output}
-use Rattle.mixed_circuit.specs.declared.operand.Operand.{Operand}
-use Rattle.mixed_circuit.specs.Language.{domain_of, widths_of, is_in, gives, states, is_name_slot, is_owner_slot, is_width_slot}
-use Rattle.mixed_circuit.specs.Circuit.{Circuit, Statement}
+use Rattle.mixed_language.specs.declared.language.Operation.{Operation}
+use Rattle.mixed_language.specs.declared.language.Operation.TheVariants.{InputWord, InputBits, ConstWord, ConstBits, Add, Sub, Mul, AddConst, MulConst, Xor, And, Not, Slice, Join, A2Y, A2B, B2Y, Y2B, B2A, Y2A, Output}
+use Rattle.mixed_language.specs.declared.operand.Operand.{Operand}
+use Rattle.mixed_language.specs.Language.{domain_of, widths_of, is_in, gives, states, is_name_slot, is_owner_slot, is_width_slot}
+use Rattle.mixed_language.specs.Circuit.{Circuit, Statement}
 use Rattle.share_types.specs.Wires.{wire_type, width_of}
 use Rattle.mixed_circuit.specs.Line.{Parts, width_given}
-use Rattle.mixed_circuit.specs.Said.{IsSaid, IsCircuit}
-use Rattle.mixed_circuit.specs.Table.{inputs_of, input_entry, owner_of}
-use Rattle.mixed_circuit.proofs.ListLemmas.{same_some}
+use Rattle.mixed_language.specs.Valid.{IsSaid, IsCircuit}
+use Rattle.mixed_language.specs.Table.{inputs_of, input_entry, owner_of}
+use Rattle.mot_base.proofs.Lists.{same_some}
 use Rattle.mixed_circuit.proofs.SaysLemmas.{said-by}
 use Rattle.bristol_reader.specs.Circuit as bristol
 use Rattle.bristol_reader.specs.Circuit.{output_wires}

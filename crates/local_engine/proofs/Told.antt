@@ -9,11 +9,11 @@ use Rattle.share_types.proofs.BitsLemmas.{length-bits}
 use Rattle.share_types.specs.declared.receiver.Receiver.{Receiver}
 use Rattle.share_types.specs.declared.receiver.Receiver.TheVariants.{All}
 use Rattle.circuit_tables.specs.Table.{Output, Told, asked, joined_bits, AreCut}
-use Rattle.mixed_circuit.specs.Circuit.{Statement}
-use Rattle.mixed_circuit.specs.Circuit as mixed
-use Rattle.mixed_circuit.specs.Language.{states, is_told_slot}
-use Rattle.mixed_circuit.specs.Table as mixed_table
-use Rattle.mixed_circuit.specs.Eval.{told_among, told_of}
+use Rattle.mixed_language.specs.Circuit.{Statement}
+use Rattle.mixed_language.specs.Circuit as mixed
+use Rattle.mixed_language.specs.Language.{states, is_told_slot}
+use Rattle.mixed_language.specs.Table as mixed_table
+use Rattle.mixed_language.specs.Eval.{told_among, told_of}
 use Rattle.bristol_reader.specs.Table as bristol_table
 use Rattle.bristol_reader.specs.Eval.{output_bits}
 use Rattle.plan_gates.specs.Plain.{GateTold}

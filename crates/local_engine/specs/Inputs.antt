@@ -1,8 +1,8 @@
 -- From whom the gates of a circuit's plan take their inputs.
 use Rattle.std.specs.Prelude.{ℕ, ◌≡◌, true}
-use Rattle.mixed_circuit.specs.Circuit as mixed
-use Rattle.mixed_circuit.specs.Said.{IsCircuit}
-use Rattle.mixed_circuit.specs.Table as mixed_table
+use Rattle.mixed_language.specs.Circuit as mixed
+use Rattle.mixed_language.specs.Valid.{IsCircuit}
+use Rattle.mixed_language.specs.Table as mixed_table
 use Rattle.bristol_reader.specs.Circuit as bristol
 use Rattle.bristol_reader.specs.Table as bristol_table
 use Rattle.gate_plan.specs.Lowering.{all_built, lowered}

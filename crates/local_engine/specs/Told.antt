@@ -3,9 +3,9 @@ use Rattle.std.specs.Prelude.{ℕ, ◌≡◌, Bool, List, map, Some}
 use Rattle.share_types.specs.declared.bits.Bits.{Bits}
 use Rattle.share_types.specs.Bits.{number}
 use Rattle.circuit_tables.specs.Table.{Told, asked, joined_bits, AreCut}
-use Rattle.mixed_circuit.specs.Circuit as mixed
-use Rattle.mixed_circuit.specs.Table as mixed_table
-use Rattle.mixed_circuit.specs.Eval.{told_of}
+use Rattle.mixed_language.specs.Circuit as mixed
+use Rattle.mixed_language.specs.Table as mixed_table
+use Rattle.mixed_language.specs.Eval.{told_of}
 use Rattle.bristol_reader.specs.Circuit as bristol
 use Rattle.bristol_reader.specs.Table as bristol_table
 use Rattle.bristol_reader.specs.Eval.{AreWireBits, output_bits}

@@ -8,21 +8,21 @@ use Rattle.std.proofs.lemmas.List.{length-map}
 use Rattle.std.proofs.lemmas.List.Folds.{list_all-append}
 use Rattle.std.proofs.lemmas.Slice.Eq.{bytes_eq-Decides}
 use Rattle.share_types.specs.declared.sharing.Sharing.{Sharing}
-use Rattle.mixed_circuit.specs.declared.language.Slot.{Slot}
-use Rattle.mixed_circuit.specs.declared.language.Slot.TheVariants as slot
-use Rattle.mixed_circuit.specs.declared.language.Operation.{Operation}
-use Rattle.mixed_circuit.specs.Language.{word_of, slots_of, states, is_name_slot, is_letter_slot, is_owner_slot, is_party_slot, is_width_slot, is_place_slot, is_constant_slot, is_operand_slot}
-use Rattle.mixed_circuit.specs.Circuit.{Statement, Shape}
+use Rattle.mixed_language.specs.declared.language.Slot.{Slot}
+use Rattle.mixed_language.specs.declared.language.Slot.TheVariants as slot
+use Rattle.mixed_language.specs.declared.language.Operation.{Operation}
+use Rattle.mixed_language.specs.Language.{word_of, slots_of, states, is_name_slot, is_letter_slot, is_owner_slot, is_party_slot, is_width_slot, is_place_slot, is_constant_slot, is_operand_slot}
+use Rattle.mixed_language.specs.Circuit.{Statement, Shape}
 use Rattle.mixed_circuit.specs.Line.{Parts, no_parts, is_letter_of, is_spelled, each_spelled, with_word, with_words}
 use Rattle.mixed_circuit.specs.Stated.{AreWhole}
-use Rattle.mixed_circuit.specs.Table.{name_at}
+use Rattle.mixed_language.specs.Table.{name_at}
 use Rattle.mixed_circuit.specs.Written.{letter_word, slot_word, slot_words, places_behind}
 use Rattle.text_lines.proofs.JoinedLemmas.{is_plain_word}
 use Rattle.mixed_circuit.proofs.SlotLemmas.{IsSmall, name_plain, some_named, letter_read, letter_plain, letter_stated, owner_plain, owner_stated, told_plain, told_stated, width_stated, place_stated, constant_stated}
 use Rattle.text_lines.proofs.DecimalLemmas.{decimal_plain}
 use Rattle.text_lines.proofs.WordLemmas.{both, both_true}
 use Rattle.text_lines.specs.Text.{Text}
-use Rattle.text_lines.specs.Word.{is_name}
+use Rattle.mot_base.specs.Names.{is_name}
 
 -- ---- what some slots have stated, and what is left
 

@@ -5,12 +5,12 @@ use Rattle.std.specs.List.{list_all, find}
 use Rattle.std.specs.Str.{bytes_eq}
 use Rattle.std.proofs.lemmas.Slice.Eq.{bytes_eq-Decides}
 use Rattle.std.proofs.lemmas.Bool.{false≢true, eqb-true, eq-eqb}
-use Rattle.mixed_circuit.specs.declared.language.Operation.{Operation}
-use Rattle.mixed_circuit.specs.declared.language.Slot.{Slot}
-use Rattle.mixed_circuit.specs.declared.language.Slot.TheVariants as slot
-use Rattle.mixed_circuit.specs.Language.{operations, word_of, slots_of}
+use Rattle.mixed_language.specs.declared.language.Operation.{Operation}
+use Rattle.mixed_language.specs.declared.language.Slot.{Slot}
+use Rattle.mixed_language.specs.declared.language.Slot.TheVariants as slot
+use Rattle.mixed_language.specs.Language.{operations, word_of, slots_of}
 use Rattle.mixed_circuit.specs.Line.{is_spelled, each_spelled, are_spelled, operation_of, OneOperation}
-use Rattle.mixed_circuit.proofs.ListLemmas.{same_some}
+use Rattle.mot_base.proofs.Lists.{same_some}
 use Rattle.text_lines.proofs.WordLemmas.{both_true}
 use Rattle.text_lines.specs.Text.{Text}
 

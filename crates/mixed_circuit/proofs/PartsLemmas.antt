@@ -6,19 +6,20 @@ use Rattle.std.specs.Str.{bytes_eq}
 use Rattle.std.proofs.lemmas.Bool.{ltb-true, leb-true, eqb-true}
 use Rattle.std.proofs.lemmas.List.{length-append}
 use Rattle.share_types.specs.declared.sharing.Sharing.{Sharing}
-use Rattle.mixed_circuit.specs.declared.language.Operation.{Operation}
-use Rattle.mixed_circuit.specs.declared.language.Slot.{Slot}
-use Rattle.mixed_circuit.specs.declared.language.Slot.TheVariants as slot
+use Rattle.mixed_language.specs.declared.language.Operation.{Operation}
+use Rattle.mixed_language.specs.declared.language.Slot.{Slot}
+use Rattle.mixed_language.specs.declared.language.Slot.TheVariants as slot
 use Rattle.mixed_circuit.specs.declared.cause.CircuitCause.TheVariants.{Word, BadNumber}
-use Rattle.mixed_circuit.specs.Language.{operations, slots_of, states, is_name_slot, is_letter_slot, is_owner_slot, is_party_slot, is_width_slot, is_place_slot, is_constant_slot, is_operand_slot}
+use Rattle.mixed_language.specs.Language.{operations, slots_of, states, is_name_slot, is_letter_slot, is_owner_slot, is_party_slot, is_width_slot, is_place_slot, is_constant_slot, is_operand_slot}
 use Rattle.mixed_circuit.specs.Line.{Parts, no_parts, is_letter_of, letter_of, is_spelled, each_spelled, are_spelled, operation_of, number_within, with_word, with_words, parts_of}
 use Rattle.text_lines.specs.Chain.{or_cause, unless}
 use Rattle.mixed_circuit.specs.Stated.{AreWhole, IsSomeName}
 use Rattle.text_lines.proofs.ChainLemmas.{ok_then, or_some, unless_true}
-use Rattle.mixed_circuit.proofs.ListLemmas.{same_some}
+use Rattle.mot_base.proofs.Lists.{same_some}
 use Rattle.text_lines.proofs.WordLemmas.{both_true}
 use Rattle.text_lines.specs.Text.{Text}
-use Rattle.text_lines.specs.Word.{is_name, number_of}
+use Rattle.text_lines.specs.Word.{number_of}
+use Rattle.mot_base.specs.Names.{is_name}
 
 -- ---- one field of what is stated
 

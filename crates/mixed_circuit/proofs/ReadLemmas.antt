@@ -5,7 +5,7 @@ use Rattle.mixed_circuit.specs.declared.read.Stage.{Stage}
 use Rattle.mixed_circuit.specs.declared.cause.CircuitCause.{CircuitCause}
 use Rattle.mixed_circuit.specs.declared.cause.CircuitError.{CircuitError}
 use Rattle.mixed_circuit.specs.declared.cause.CircuitError.TheVariants as circuit_error
-use Rattle.mixed_circuit.specs.Circuit.{Circuit}
+use Rattle.mixed_language.specs.Circuit.{Circuit}
 use Rattle.mixed_circuit.specs.Grammar.{circuits, behind, whole, Reads, FirstFault, IsFirstFault}
 use Rattle.mixed_circuit.specs.Reading.{FailsAt, GivesAt}
 use Rattle.text_lines.specs.Text.{Text}

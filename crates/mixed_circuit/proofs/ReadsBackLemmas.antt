@@ -8,12 +8,12 @@ use Rattle.std.proofs.Math.Seq.{take-append_seam}
 use Rattle.mot_base.specs.Limits.{least_parties, most_parties}
 use Rattle.mixed_circuit.specs.declared.read.Stage.{Stage}
 use Rattle.mixed_circuit.specs.declared.read.Stage.TheVariants.{Start, Titled, Body}
-use Rattle.mixed_circuit.specs.Circuit.{Circuit, Statement, with_statement, no_statements}
+use Rattle.mixed_language.specs.Circuit.{Circuit, Statement, with_statement, no_statements}
 use Rattle.mixed_circuit.specs.Line.{operation_of, parts_of, said}
-use Rattle.mixed_circuit.specs.Said.{IsSaid, IsCircuit}
+use Rattle.mixed_language.specs.Valid.{IsSaid, IsCircuit}
 use Rattle.mixed_circuit.specs.Grammar.{circuits, adds, behind, behind_words, parties_of, Reads}
 use Rattle.mixed_circuit.specs.Written.{statement_words, line_of, headers, canonical}
-use Rattle.mixed_circuit.proofs.CircuitLemmas.{fields}
+use Rattle.mixed_language.proofs.CircuitLemmas.{fields}
 use Rattle.text_lines.proofs.JoinedLemmas.{is_plain_word, is_inner, ended, joined_inner, joined_allowed, line_words_joined, lines_ended}
 use Rattle.mixed_circuit.proofs.SlotLemmas.{decimal_within}
 use Rattle.text_lines.proofs.DecimalLemmas.{decimal_plain}

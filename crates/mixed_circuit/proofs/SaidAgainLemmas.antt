@@ -9,21 +9,21 @@ use Rattle.std.proofs.lemmas.Slice.Eq.{bytes_eq-Decides}
 use Rattle.share_types.specs.declared.sharing.Sharing.{Sharing}
 use Rattle.share_types.specs.declared.sharing.Sharing.TheVariants.{A, B, Y}
 use Rattle.mot_base.specs.Limits.{most_parties}
-use Rattle.mixed_circuit.specs.declared.language.Operation.{Operation}
-use Rattle.mixed_circuit.specs.declared.operand.Operand.{Operand}
-use Rattle.mixed_circuit.specs.Language.{operations, word_of, domain_of, gives, states, is_name_slot, is_letter_slot}
-use Rattle.mixed_circuit.specs.Circuit.{Circuit, Statement}
+use Rattle.mixed_language.specs.declared.language.Operation.{Operation}
+use Rattle.mixed_language.specs.declared.operand.Operand.{Operand}
+use Rattle.mixed_language.specs.Language.{operations, word_of, domain_of, gives, states, is_name_slot, is_letter_slot}
+use Rattle.mixed_language.specs.Circuit.{Circuit, Statement}
 use Rattle.mixed_circuit.specs.Line.{letter_of, are_spelled, is_letter_of, is_party, operands_of, operand_of, sharing_given, statement_of, said}
 use Rattle.mixed_circuit.specs.Stated.{IsSomeName}
-use Rattle.mixed_circuit.specs.Said.{IsSaid}
-use Rattle.mixed_circuit.specs.Table.{name_at}
+use Rattle.mixed_language.specs.Valid.{IsSaid}
+use Rattle.mixed_language.specs.Table.{name_at}
 use Rattle.mixed_circuit.specs.Written.{letter_word, statement_words}
-use Rattle.mixed_circuit.proofs.ListLemmas.{same_some}
+use Rattle.mot_base.proofs.Lists.{same_some}
 use Rattle.mixed_circuit.proofs.ApartLemmas.{one_line_one_operation}
-use Rattle.mixed_circuit.proofs.CircuitLemmas.{fields}
+use Rattle.mixed_language.proofs.CircuitLemmas.{fields}
 use Rattle.mixed_circuit.proofs.EarlierLemmas.{operand_found}
 use Rattle.mixed_circuit.proofs.NameLemmas.{each_row}
-use Rattle.mixed_circuit.proofs.PlaceLemmas.{place_of-named}
+use Rattle.mixed_language.proofs.PlaceLemmas.{place_of-named}
 use Rattle.mixed_circuit.proofs.SaysLemmas.{said-by, operation_of-listed, parts_again, resolved_again, said_again, then_operand}
 use Rattle.text_lines.proofs.JoinedLemmas.{is_plain_word}
 use Rattle.mixed_circuit.proofs.SlotLemmas.{IsSmall, keywords_plain, letter_read}

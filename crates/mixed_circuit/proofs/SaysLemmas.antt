@@ -4,19 +4,19 @@ use Rattle.std.specs.Prelude.{slice_get, IfSome, nat_lt, is_none, option_map, op
 use Rattle.std.specs.List.{find, list_all}
 use Rattle.std.proofs.lemmas.Bool.{ltb-true, lt-ltb}
 use Rattle.share_types.specs.declared.sharing.Sharing.{Sharing}
-use Rattle.mixed_circuit.specs.declared.language.Operation.{Operation}
+use Rattle.mixed_language.specs.declared.language.Operation.{Operation}
 use Rattle.mixed_circuit.specs.declared.cause.CircuitCause.TheVariants.{BadParty, NameTwice, NameUnknown, WrongSharing, WrongWidth, TooMany}
-use Rattle.mixed_circuit.specs.declared.operand.Operand.{Operand}
-use Rattle.mixed_circuit.specs.Language.{operations, slots_of, domain_of, widths_of, is_in, states, is_letter_slot}
+use Rattle.mixed_language.specs.declared.operand.Operand.{Operand}
+use Rattle.mixed_language.specs.Language.{operations, slots_of, domain_of, widths_of, is_in, states, is_letter_slot}
 use Rattle.mot_base.specs.Limits.{most_statements}
-use Rattle.mixed_circuit.specs.Circuit.{Circuit, Statement, place_of}
+use Rattle.mixed_language.specs.Circuit.{Circuit, Statement, place_of}
 use Rattle.share_types.specs.Wires.{sharing_of, is_shared}
 use Rattle.mixed_circuit.specs.Line.{Parts, no_parts, are_spelled, operation_of, with_words, parts_of, operand_of, operands_of, sharing_given, width_given, statement_of, resolved, said, is_party, is_new, is_letter_of}
 use Rattle.text_lines.specs.Chain.{or_cause, unless}
 use Rattle.mixed_circuit.specs.Stated.{AreWhole}
 use Rattle.mixed_circuit.specs.Says.{Says, ReadsWhatIsSaid}
 use Rattle.text_lines.proofs.ChainLemmas.{ok_then, or_some, unless_true}
-use Rattle.mixed_circuit.proofs.ListLemmas.{same_some}
+use Rattle.mot_base.proofs.Lists.{same_some}
 use Rattle.mixed_circuit.proofs.ApartLemmas.{one_line_one_operation}
 use Rattle.mixed_circuit.proofs.PartsLemmas.{StatedBy, parts_of-stated, operation_of-spelled}
 use Rattle.text_lines.specs.Text.{Text}

@@ -13,9 +13,9 @@ use Rattle.std.proofs.lemmas.Fmt.{decimal_is_IsNumeral}
 use Rattle.std.proofs.lemmas.Slice.Eq.{bytes_eq-Decides}
 use Rattle.share_types.specs.declared.sharing.Sharing.{Sharing}
 use Rattle.share_types.specs.declared.sharing.Sharing.TheVariants.{A, B, Y}
-use Rattle.mixed_circuit.specs.declared.language.Operation.{Operation}
-use Rattle.mixed_circuit.specs.declared.language.Slot.TheVariants as slot
-use Rattle.mixed_circuit.specs.Language.{operations, word_of}
+use Rattle.mixed_language.specs.declared.language.Operation.{Operation}
+use Rattle.mixed_language.specs.declared.language.Slot.TheVariants as slot
+use Rattle.mixed_language.specs.Language.{operations, word_of}
 use Rattle.mixed_circuit.specs.Line.{Parts, letter_of, is_letter_of, number_within, with_word}
 use Rattle.mixed_circuit.specs.Stated.{IsSomeName}
 use Rattle.mixed_circuit.specs.Written.{letter_word, told_word}
@@ -23,7 +23,8 @@ use Rattle.text_lines.proofs.DecimalLemmas.{decimal_plain, decimal_digits}
 use Rattle.text_lines.proofs.JoinedLemmas.{is_plain, is_plain_word, implied_all}
 use Rattle.text_lines.proofs.WordLemmas.{both, both_true}
 use Rattle.text_lines.specs.Text.{Text, is_empty}
-use Rattle.text_lines.specs.Word.{is_name, is_letter, are_digits, begins_hexadecimal, number_in, number_of}
+use Rattle.text_lines.specs.Word.{are_digits, begins_hexadecimal, number_in, number_of}
+use Rattle.mot_base.specs.Names.{is_name, is_letter}
 
 -- ---- names
 

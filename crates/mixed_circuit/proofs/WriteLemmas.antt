@@ -4,10 +4,10 @@ use Rattle.std.specs.Prelude.{◌==◌, OnOk, slice_get, IfSome}
 use Rattle.std.specs.List.{join_with_byte, flat_map}
 use Rattle.std.specs.Fmt.{decimal}
 use Rattle.std.proofs.lemmas.List.{take_all, flat_map_more}
-use Rattle.mixed_circuit.specs.declared.language.Slot.{Slot}
-use Rattle.mixed_circuit.specs.Circuit.{Circuit, Statement, Shape}
+use Rattle.mixed_language.specs.declared.language.Slot.{Slot}
+use Rattle.mixed_language.specs.Circuit.{Circuit, Statement, Shape}
 use Rattle.mixed_circuit.specs.Written.{slot_word, slot_words, places_behind, statement_words, line_of, headers, canonical}
-use Rattle.mixed_circuit.proofs.ListLemmas.{take_next}
+use Rattle.mot_base.proofs.Lists.{take_next}
 use Rattle.text_lines.specs.Text.{Text}
 
 pub on_ok : {E : Type 0} {A B : Type 0} (r : Result (Unit {0}) E) → (A → B) → OnOk r A → OnOk r B

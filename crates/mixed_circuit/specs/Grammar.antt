@@ -10,7 +10,7 @@ use Rattle.mixed_circuit.specs.declared.cause.CircuitError.{CircuitError}
 use Rattle.mixed_circuit.specs.declared.cause.CircuitError.TheVariants.{At, NoMemory}
 use Rattle.mixed_circuit.specs.declared.read.Stage.{Stage}
 use Rattle.mixed_circuit.specs.declared.read.Stage.TheVariants.{Start, Titled, Body}
-use Rattle.mixed_circuit.specs.Circuit.{Circuit, no_statements, with_statement}
+use Rattle.mixed_language.specs.Circuit.{Circuit, no_statements, with_statement}
 use Rattle.mixed_circuit.specs.Line.{said, number_within}
 use Rattle.text_lines.specs.Chain.{or_cause, unless, ◌>>=◌}
 use Rattle.text_lines.specs.Text.{Text, is_allowed, line_words}

@@ -1,15 +1,9 @@
-pub mod Language
-pub mod Circuit
 pub mod Line
-pub mod Said
 pub mod Says
 pub mod Grammar
 pub mod Gives
 pub mod Reading
 pub mod Stated
-pub mod Table
 pub mod Written
 pub mod Rows
-pub mod Wide
-pub mod Eval
 pub mod Names

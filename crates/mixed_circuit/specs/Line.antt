@@ -5,22 +5,23 @@ use Rattle.std.specs.Option.{unwrap_or}
 use Rattle.std.specs.Str.{bytes_eq}
 use Rattle.share_types.specs.declared.sharing.Sharing.{Sharing}
 use Rattle.share_types.specs.declared.sharing.Sharing.TheVariants.{A, B, Y}
-use Rattle.mixed_circuit.specs.declared.language.Operation.{Operation}
-use Rattle.mixed_circuit.specs.declared.language.Slot.{Slot}
-use Rattle.mixed_circuit.specs.declared.language.Slot.TheVariants as slot
-use Rattle.mixed_circuit.specs.declared.language.Domain.{Domain}
-use Rattle.mixed_circuit.specs.declared.language.Widths.{Widths}
-use Rattle.mixed_circuit.specs.declared.language.Widths.TheVariants.{Whole, Stated, Alike, Cut, Joined}
+use Rattle.mixed_language.specs.declared.language.Operation.{Operation}
+use Rattle.mixed_language.specs.declared.language.Slot.{Slot}
+use Rattle.mixed_language.specs.declared.language.Slot.TheVariants as slot
+use Rattle.mixed_language.specs.declared.language.Domain.{Domain}
+use Rattle.mixed_language.specs.declared.language.Widths.{Widths}
 use Rattle.mixed_circuit.specs.declared.cause.CircuitCause.{CircuitCause}
 use Rattle.mixed_circuit.specs.declared.cause.CircuitCause.TheVariants.{Word, BadNumber, BadParty, NameTwice, NameUnknown, WrongSharing, WrongWidth, TooMany}
-use Rattle.mixed_circuit.specs.declared.operand.Operand.{Operand}
-use Rattle.mixed_circuit.specs.Language.{operations, word_of, slots_of, domain_of, is_in, gives, widths_of}
+use Rattle.mixed_language.specs.declared.operand.Operand.{Operand}
+use Rattle.mixed_language.specs.Operands.{width_by}
+use Rattle.mixed_language.specs.Language.{operations, word_of, slots_of, domain_of, is_in, gives, widths_of}
 use Rattle.mot_base.specs.Limits.{most_statements, most_width}
-use Rattle.mixed_circuit.specs.Circuit.{Circuit, Statement, wire_at, place_of}
+use Rattle.mixed_language.specs.Circuit.{Circuit, Statement, wire_at, place_of}
 use Rattle.share_types.specs.Wires.{wire_type, sharing_of, width_of, is_shared}
 use Rattle.text_lines.specs.Text.{Text}
 use Rattle.text_lines.specs.Chain.{◌>>=◌, or_cause, unless}
-use Rattle.text_lines.specs.Word.{is_name, number_of}
+use Rattle.text_lines.specs.Word.{number_of}
+use Rattle.mot_base.specs.Names.{is_name}
 
 -- ---- the words of a line
 
@@ -166,28 +167,9 @@ sharing_given domain None operands =
     else None)
     (slice_get operands 0)
 
--- the width of the first operand, if all operands have it
-abbrev pub alike_width : List Operand → Option ℕ
-alike_width operands =
-    option_and_then
-    (λ first.
-    if list_all (λ x. width_of x.wire == width_of first.wire) operands
-    then Some (width_of first.wire)
-    else None)
-    (slice_get operands 0)
-
 -- how wide the value is, if the widths of the operands fit
 abbrev pub width_given : Widths → Parts → List Operand → Option ℕ
-width_given Whole parts operands = Some most_width
-width_given Stated parts operands = Some parts.width
-width_given Alike parts operands = alike_width operands
-width_given Cut parts (x ∷ []) =
-    if nat_le (parts.place + parts.width) (width_of x.wire) then Some parts.width else None
-width_given Joined parts (x ∷ y ∷ []) =
-    if nat_le (width_of x.wire + width_of y.wire) most_width
-    then Some (width_of x.wire + width_of y.wire)
-    else None
-width_given _ parts operands = None
+width_given widths parts operands = width_by widths parts.width parts.place operands
 
 -- the statement of some parts, where its operands were found and their sharings and widths fit. It has a
 -- value where it has a name

@@ -1,8 +1,8 @@
 -- What the code sees of a form, as its shape.
 use Rattle.std.specs.Prelude.{◌∷◌, [], take, option_map}
 use Rattle.mixed_circuit.specs.declared.row.Row.{Row}
-use Rattle.mixed_circuit.specs.Circuit.{Shape}
-use Rattle.mixed_circuit.specs.Language.{arity_of}
+use Rattle.mixed_language.specs.Circuit.{Shape}
+use Rattle.mixed_language.specs.Language.{arity_of}
 
 abbrev pub row_shape : Row → Shape
 row_shape row = record {

@@ -1,10 +1,10 @@
 -- What a line says, as one fact for each part of it, in no order.
 use Rattle.std.specs.Prelude.{ℕ, ◌≡◌, ◌<◌, ◌^◌, true, List, length, slice_get, Some, None, Ok, IfSome, ◌↔◌}
 use Rattle.share_types.specs.declared.sharing.Sharing.{Sharing}
-use Rattle.mixed_circuit.specs.declared.operand.Operand.{Operand}
-use Rattle.mixed_circuit.specs.Language.{operations, slots_of, domain_of, widths_of}
+use Rattle.mixed_language.specs.declared.operand.Operand.{Operand}
+use Rattle.mixed_language.specs.Language.{operations, slots_of, domain_of, widths_of}
 use Rattle.mot_base.specs.Limits.{most_statements}
-use Rattle.mixed_circuit.specs.Circuit.{Circuit, Statement, place_of}
+use Rattle.mixed_language.specs.Circuit.{Circuit, Statement, place_of}
 use Rattle.mixed_circuit.specs.Line.{Parts, no_parts, are_spelled, with_words, operands_of, sharing_given, width_given, statement_of, said}
 use Rattle.text_lines.specs.Text.{Text}
 

@@ -4,11 +4,11 @@ use Rattle.mot_base.specs.Limits.{most_width}
 use Rattle.std.specs.List.{list_all}
 use Rattle.share_types.specs.declared.sharing.Sharing.{Sharing}
 use Rattle.mixed_circuit.specs.declared.raw.Raw.{Raw}
-use Rattle.mixed_circuit.specs.Language.{gives, states, is_name_slot, is_letter_slot, is_owner_slot, is_party_slot, is_width_slot, is_place_slot, is_constant_slot, arity_of}
-use Rattle.mixed_circuit.specs.Circuit.{Shape}
+use Rattle.mixed_language.specs.Language.{gives, states, is_name_slot, is_letter_slot, is_owner_slot, is_party_slot, is_width_slot, is_place_slot, is_constant_slot, arity_of}
+use Rattle.mixed_language.specs.Circuit.{Shape}
 use Rattle.mixed_circuit.specs.Line.{Parts, is_letter_of}
 use Rattle.text_lines.specs.Text.{Text}
-use Rattle.text_lines.specs.Word.{is_name}
+use Rattle.mot_base.specs.Names.{is_name}
 
 -- the parts, without where their words lie in memory
 abbrev pub stated : Raw → Parts

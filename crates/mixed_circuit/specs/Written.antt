@@ -6,11 +6,11 @@ use Rattle.std.specs.Option.{unwrap_or}
 use Rattle.std.specs.Fmt.{decimal}
 use Rattle.share_types.specs.declared.sharing.Sharing.{Sharing}
 use Rattle.share_types.specs.declared.sharing.Sharing.TheVariants.{A, B, Y}
-use Rattle.mixed_circuit.specs.declared.language.Slot.{Slot}
-use Rattle.mixed_circuit.specs.declared.language.Slot.TheVariants as slot
-use Rattle.mixed_circuit.specs.Language.{word_of, slots_of}
-use Rattle.mixed_circuit.specs.Circuit.{Circuit, Statement, Shape}
-use Rattle.mixed_circuit.specs.Table.{name_at}
+use Rattle.mixed_language.specs.declared.language.Slot.{Slot}
+use Rattle.mixed_language.specs.declared.language.Slot.TheVariants as slot
+use Rattle.mixed_language.specs.Language.{word_of, slots_of}
+use Rattle.mixed_language.specs.Circuit.{Circuit, Statement, Shape}
+use Rattle.mixed_language.specs.Table.{name_at}
 use Rattle.text_lines.specs.Text.{Text}
 
 -- the letter of a sharing

@@ -1,16 +1,16 @@
 ghost use Rattle.std.specs.Prelude.{◌≡◌, ◌<◌, ◌≤◌, true, length, map, nat_lt, option_map, is_some, None, IfOk};
 ghost use Rattle.mixed_circuit.specs.declared.cause.CircuitCause.TheVariants.{NameUnknown};
 ghost use Rattle.mot_base.specs.Limits.{least_parties, most_parties, most_statements};
-ghost use Rattle.mixed_circuit.specs.Circuit.{no_statements, place_of, with_statement};
+ghost use Rattle.mixed_language.specs.Circuit.{no_statements, place_of, with_statement};
 ghost use Rattle.mixed_circuit.specs.Line.{is_new, operand_of, operands_of};
 ghost use Rattle.text_lines.specs.Chain.{or_cause};
-ghost use Rattle.mixed_circuit.specs.Said.{IsCircuit, IsSaid};
+ghost use Rattle.mixed_language.specs.Valid.{IsCircuit, IsStatement};
 ghost use Rattle.mixed_circuit.specs.Gives.{Gives};
 
 use crate::cause::{CircuitCause, LineError};
-use crate::circuit::{Mixed, Said};
+use mixed_language::{Mixed, NewStatement};
 use crate::names::Places;
-use crate::operand::Operand;
+use mixed_language::Operand;
 use mot_base::MAX_STATEMENTS;
 use std::alloc::{AllocError, Global};
 use std::marker::Model;
@@ -27,9 +27,9 @@ pub struct Builder<'a> {
 impl<'a> Model for Builder<'a> {
     ghost use Rattle.std.specs.Prelude.{◌≡◌};
     ghost use Rattle.text_lines.specs.Text.{Text};
-    ghost use Rattle.mixed_circuit.specs.Circuit.{Circuit, place_of};
+    ghost use Rattle.mixed_language.specs.Circuit.{Circuit, place_of};
     ghost use Rattle.mixed_circuit.specs.Names.{place_in};
-    ghost use Rattle.mixed_circuit.specs.Said.{IsCircuit};
+    ghost use Rattle.mixed_language.specs.Valid.{IsCircuit};
 
     ghost Value = { Circuit };
 
@@ -117,9 +117,9 @@ impl<'a> Builder<'a> {
     }
 
     /// The circuit with one statement more.
-    pub fn with_statement(self, alloc: Global, said: Said<'a>) -> Result<Builder<'a>, AllocError>
+    pub fn with_statement(self, alloc: Global, said: NewStatement<'a>) -> Result<Builder<'a>, AllocError>
         requires few { length self.statements < most_statements }
-        requires said { IsSaid self.parties self.statements said }
+        requires statement { IsStatement self.parties self.statements said }
         ensures { IfOk result (λ b. b ≡ with_statement self.entry said.entry) }
     {
         if said.wire.is_some() {
@@ -130,27 +130,27 @@ impl<'a> Builder<'a> {
     }
 
     /// The circuit with one statement more, which gives a value.
-    fn with_value(self, alloc: Global, said: Said<'a>) -> Result<Builder<'a>, AllocError>
+    fn with_value(self, alloc: Global, said: NewStatement<'a>) -> Result<Builder<'a>, AllocError>
         requires few { length self.statements < most_statements }
-        requires said { IsSaid self.parties self.statements said }
+        requires statement { IsStatement self.parties self.statements said }
         requires value { is_some said.wire ≡ true }
         ensures { IfOk result (λ b. b ≡ with_statement self.entry said.entry) }
     {
         let Builder { circuit, places } = self;
         let places = places.with(said.name, circuit.len())?;
-        let circuit = circuit.with_said(alloc, said)?;
+        let circuit = circuit.with_statement(alloc, said)?;
         Ok(Builder { circuit, places })
     }
 
     /// The circuit with one statement more, which gives no value.
-    fn with_output(self, alloc: Global, said: Said<'a>) -> Result<Builder<'a>, AllocError>
+    fn with_output(self, alloc: Global, said: NewStatement<'a>) -> Result<Builder<'a>, AllocError>
         requires few { length self.statements < most_statements }
-        requires said { IsSaid self.parties self.statements said }
+        requires statement { IsStatement self.parties self.statements said }
         requires no_value { said.wire ≡ None }
         ensures { IfOk result (λ b. b ≡ with_statement self.entry said.entry) }
     {
         let Builder { circuit, places } = self;
-        let circuit = circuit.with_said(alloc, said)?;
+        let circuit = circuit.with_statement(alloc, said)?;
         Ok(Builder { circuit, places })
     }
 }

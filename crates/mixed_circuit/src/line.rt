@@ -6,7 +6,7 @@ ghost use Rattle.mixed_circuit.specs.Stated.{stated, AreWhole};
 
 use crate::builder::Builder;
 use crate::cause::{CircuitCause, LineError};
-use crate::circuit::Said;
+use mixed_language::NewStatement;
 use crate::operand::{sharing_of_all, width_of_all};
 use crate::raw::{Raw, check, raw_of};
 use crate::statement::statement_said;
@@ -32,7 +32,7 @@ fn statement_of_words<'a>(
     alloc: Global,
     builder: &Builder,
     words: &[&'a [u8]],
-) -> Result<Said<'a>, LineError>
+) -> Result<NewStatement<'a>, LineError>
     ensures { Gives (λ s. s) result (said builder.now (map (λ word. word.now) words.entry.now)) }
 {
     let raw = raw_of(alloc, words)?;
@@ -47,7 +47,7 @@ fn statement_of_raw<'a>(
     alloc: Global,
     builder: &Builder,
     raw: &Raw<'a>,
-) -> Result<Said<'a>, LineError>
+) -> Result<NewStatement<'a>, LineError>
     requires { AreWhole (stated raw.now) }
     ensures { Gives (λ s. s) result (resolved builder.now (stated raw.now)) }
 {

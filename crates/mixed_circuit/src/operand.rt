@@ -2,21 +2,15 @@ ghost use Rattle.std.specs.Prelude.{◌≡◌, ◌==◌, ◌+◌, nat_le, slice_
 ghost use Rattle.std.specs.List.{list_all};
 ghost use Rattle.mot_base.specs.Limits.{most_width};
 ghost use Rattle.share_types.specs.Wires.{sharing_of, width_of, is_shared};
-ghost use Rattle.mixed_circuit.specs.Line.{sharing_given, alike_width, width_given};
-ghost use Rattle.mixed_circuit.specs.Language.{domain_of, is_in};
+ghost use Rattle.mixed_circuit.specs.Line.{sharing_given, width_given};
+ghost use Rattle.mixed_language.specs.Operands.{alike_width};
+ghost use Rattle.mixed_language.specs.Language.{domain_of, is_in};
 ghost use Rattle.mixed_circuit.specs.Stated.{stated, AreWhole};
 
-use crate::language::{Domain, Widths};
 use crate::raw::Raw;
+use mixed_language::{Domain, Operand, Widths};
 use mot_base::MAX_WIDTH;
 use share_types::{Sharing, WireType};
-
-/// An operand: the number of the statement that gives it, and how it is shared.
-#[derive(Clone, Copy)]
-pub struct Operand {
-    pub at: u32,
-    pub wire: WireType,
-}
 
 /// The sharing of a line's letter, or that of the first operand, where the operation takes it and all
 /// operands have it.

@@ -1,14 +1,14 @@
 ghost use Rattle.std.specs.Prelude.{◌≡◌, ◌≤◌, ◌^◌, nat_lt, map, IfSome};
 ghost use Rattle.text_lines.specs.Word.{number_of};
 ghost use Rattle.mixed_circuit.specs.declared.cause.CircuitCause.TheVariants.{BadNumber};
-ghost use Rattle.mixed_circuit.specs.declared.language.Slot.TheVariants.{Operand};
+ghost use Rattle.mixed_language.specs.declared.language.Slot.TheVariants.{Operand};
 ghost use Rattle.mixed_circuit.specs.Gives.{Gives};
 ghost use Rattle.mixed_circuit.specs.Line.{letter_of, is_letter_of, is_spelled, each_spelled, are_spelled, operation_of, no_parts, number_within, with_word, with_words, parts_of};
 ghost use Rattle.text_lines.specs.Chain.{or_cause, unless};
 ghost use Rattle.mixed_circuit.specs.Stated.{stated};
 
 use crate::cause::{CircuitCause, LineError};
-use crate::language::{Operation, Slot};
+use mixed_language::{Operation, Slot};
 use mot_base::MAX_WIDTH;
 use share_types::Sharing;
 use std::alloc::Global;

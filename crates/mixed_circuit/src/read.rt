@@ -8,7 +8,7 @@ ghost use Rattle.mixed_circuit.specs.Line.{OneOperation};
 
 use crate::builder::Builder;
 use crate::cause::{CircuitCause, CircuitError, LineError};
-use crate::circuit::Mixed;
+use mixed_language::Mixed;
 use crate::line::with_line;
 use crate::raw::{check, number_from_to};
 use mot_base::{MAX_PARTIES, MIN_PARTIES};

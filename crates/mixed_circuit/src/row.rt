@@ -1,13 +1,13 @@
 ghost use Rattle.std.specs.Prelude.{◌≡◌, [], Some, None, option_map};
 ghost use Rattle.mot_base.specs.Limits.{most_width};
-ghost use Rattle.mixed_circuit.specs.declared.language.Operation.TheVariants.{ConstBits};
-ghost use Rattle.mixed_circuit.specs.Circuit as spec;
-ghost use Rattle.mixed_circuit.specs.Circuit.{shape_of};
+ghost use Rattle.mixed_language.specs.declared.language.Operation.TheVariants.{ConstBits};
+ghost use Rattle.mixed_language.specs.Circuit as spec;
+ghost use Rattle.mixed_language.specs.Circuit.{shape_of};
 ghost use Rattle.share_types.specs.Wires.{party_told};
 ghost use Rattle.mixed_circuit.specs.Rows.{row_shape};
 
-use crate::form::Form;
-use crate::language::Operation;
+use mixed_language::Form;
+use mixed_language::Operation;
 use circuit_tables::Receiver;
 use mot_base::{MAX_WIDTH, Party};
 use share_types::{Bits, Sharing};

@@ -1,17 +1,17 @@
 ghost use Rattle.std.specs.Prelude.{◌≡◌, ◌<◌, true, [], ◌∷◌, length, map, Some, IfSome, IsSome, slice_index};
 ghost use Rattle.mot_base.specs.Limits.{most_parties};
-ghost use Rattle.mixed_circuit.specs.Language.{domain_of, is_in, arity_of};
-ghost use Rattle.mixed_circuit.specs.declared.language.Domain.TheVariants.{Vectors};
-ghost use Rattle.mixed_circuit.specs.declared.language.Operation.TheVariants.{InputBits, ConstBits, Xor, And, Not, Slice, Join};
-ghost use Rattle.mixed_circuit.specs.Circuit.{shape_of, bare};
+ghost use Rattle.mixed_language.specs.Language.{domain_of, is_in, arity_of};
+ghost use Rattle.mixed_language.specs.declared.language.Domain.TheVariants.{Vectors};
+ghost use Rattle.mixed_language.specs.declared.language.Operation.TheVariants.{InputBits, ConstBits, Xor, And, Not, Slice, Join};
+ghost use Rattle.mixed_language.specs.Circuit.{shape_of, bare};
 ghost use Rattle.share_types.specs.Wires.{party_told, wire_type};
 ghost use Rattle.mixed_circuit.specs.Line.{statement_of};
 ghost use Rattle.mixed_circuit.specs.Stated.{stated, AreWhole, shape_stated};
 
-use crate::circuit::Said;
-use crate::form::Form;
-use crate::language::Operation;
-use crate::operand::Operand;
+use mixed_language::NewStatement;
+use mixed_language::Form;
+use mixed_language::Operation;
+use mixed_language::Operand;
 use crate::raw::Raw;
 use circuit_tables::Receiver;
 use mot_base::Party;
@@ -181,7 +181,7 @@ pub fn statement_said<'a>(
     operands: &[Operand],
     sharing: Sharing,
     width: u8,
-) -> Said<'a>
+) -> NewStatement<'a>
     requires whole { AreWhole (stated raw.now) }
     requires sharing { is_in (domain_of raw.now.operation) sharing ≡ true }
     requires party { IfSome raw.now.party (λ party. party < most_parties) }
@@ -190,12 +190,12 @@ pub fn statement_said<'a>(
 {
     let form = form_of(raw, sharing, place_at(operands, 0), place_at(operands, 1));
     match raw.name {
-        Some(name) => Said {
+        Some(name) => NewStatement {
             name: name_text(name),
             wire: Some(wire_of(raw.operation.gives(sharing), width)),
             form,
         },
-        None => Said {
+        None => NewStatement {
             name: "",
             wire: None,
             form,

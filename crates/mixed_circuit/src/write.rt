@@ -4,11 +4,11 @@ ghost use Rattle.std.specs.List.{join_with_byte};
 ghost use Rattle.std.specs.Fmt.{decimal};
 ghost use Rattle.mixed_circuit.specs.Rows.{row_shape};
 ghost use Rattle.mixed_circuit.specs.Written.{letter_word, told_word, operand_word, slot_word, slot_words, places_behind, statement_words, line_of, headers, canonical};
-ghost use Rattle.mixed_circuit.specs.Said.{AreEarlier};
+ghost use Rattle.mixed_language.specs.Valid.{AreEarlier};
 ghost use Rattle.mixed_circuit.specs.Grammar.{Reads};
 
-use crate::circuit::Mixed;
-use crate::language::Slot;
+use mixed_language::Mixed;
+use mixed_language::Slot;
 use crate::row::{Row, row_of};
 use mot_base::{NoMemory, Party};
 use share_types::Sharing;

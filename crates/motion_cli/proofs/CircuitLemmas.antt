@@ -9,14 +9,14 @@ use Rattle.cli_words.specs.declared.table.Sharing as word
 use Rattle.cli_words.specs.declared.table.Sharing.TheVariants.{B, Y}
 use Rattle.share_types.specs.declared.sharing.WireType.{WireType}
 use Rattle.circuit_tables.specs.Table.{Output}
-use Rattle.mixed_circuit.specs.Circuit as mixed
-use Rattle.mixed_circuit.specs.Circuit.{Statement, wire_at}
+use Rattle.mixed_language.specs.Circuit as mixed
+use Rattle.mixed_language.specs.Circuit.{Statement, wire_at}
 use Rattle.share_types.specs.Wires.{width_of}
-use Rattle.mixed_circuit.specs.Language.{states, is_told_slot}
-use Rattle.mixed_circuit.specs.Said.{IsCircuit}
-use Rattle.mixed_circuit.specs.Table.{receiver_of, name_at, width_at, told_value, inputs_of, output_entry, outputs_among, outputs_of}
-use Rattle.mixed_circuit.specs.Wide.{AllWide}
-use Rattle.mixed_circuit.proofs.WidthLemmas.{circuit_wide}
+use Rattle.mixed_language.specs.Language.{states, is_told_slot}
+use Rattle.mixed_language.specs.Valid.{IsCircuit}
+use Rattle.mixed_language.specs.Table.{receiver_of, name_at, width_at, told_value, inputs_of, output_entry, outputs_among, outputs_of}
+use Rattle.mixed_language.specs.Wide.{AllWide}
+use Rattle.mixed_language.proofs.WidthLemmas.{circuit_wide}
 use Rattle.bristol_reader.specs.Circuit.{Circuit}
 use Rattle.bristol_reader.specs.Table.{inputs_of as bristol_inputs}
 use Rattle.gate_plan.specs.declared.error.PlanError.{PlanError}

@@ -14,7 +14,7 @@ use Rattle.mot_base.specs.Limits.{most_file_bytes}
 use Rattle.share_types.specs.declared.needs.Needs.{Needs}
 use Rattle.cli_words.specs.Request.{DealRequest}
 use Rattle.dealer_files.specs.Part.{Part, counts_of}
-use Rattle.mixed_circuit.proofs.ListLemmas.{take_next}
+use Rattle.mot_base.proofs.Lists.{take_next}
 use Rattle.text_lines.specs.Text.{Text}
 use Rattle.motion_cli.specs.declared.refusal.Refusal.{Refusal}
 use Rattle.motion_cli.specs.declared.refusal.Refusal.TheVariants.{Memory}

@@ -11,7 +11,7 @@ use Rattle.std.proofs.lemmas.List.{append-nil, length-append, drop-drop, length-
 use Rattle.share_types.specs.Bits.{number}
 use Rattle.circuit_tables.specs.Table.{Output, Told, asked, is_asked, AreCut}
 use Rattle.circuit_tables.proofs.Narrow.{some_at}
-use Rattle.mixed_circuit.proofs.ListLemmas.{take_next}
+use Rattle.mot_base.proofs.Lists.{take_next}
 use Rattle.text_lines.specs.Text.{Text}
 use Rattle.local_run.specs.declared.report.PartyReport.{PartyReport}
 use Rattle.motion_cli.specs.declared.report.Notation.{Notation}

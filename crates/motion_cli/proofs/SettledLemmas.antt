@@ -12,10 +12,10 @@ use Rattle.circuit_tables.proofs.CutLemmas.{cuts_once}
 use Rattle.circuit_values.specs.Values as values
 use Rattle.mixed_circuit.specs.declared.cause.CircuitCause.{CircuitCause}
 use Rattle.mixed_circuit.specs.declared.read.Stage.{Stage}
-use Rattle.mixed_circuit.specs.Circuit as mixed
+use Rattle.mixed_language.specs.Circuit as mixed
 use Rattle.mixed_circuit.specs.Grammar.{circuits}
-use Rattle.mixed_circuit.specs.Eval.{told_of}
-use Rattle.mixed_circuit.proofs.EvalLemmas.{evaluates_once}
+use Rattle.mixed_language.specs.Eval.{told_of}
+use Rattle.mixed_language.proofs.EvalLemmas.{evaluates_once}
 use Rattle.bristol_reader.specs.declared.cause.BristolCause.{BristolCause}
 use Rattle.bristol_reader.specs.Circuit as bristol
 use Rattle.bristol_reader.specs.Table as bristol_table

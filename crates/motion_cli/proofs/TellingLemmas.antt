@@ -14,13 +14,13 @@ use Rattle.circuit_tables.specs.Table.{Output, Told, asked, joined_bits, total_w
 use Rattle.circuit_tables.specs.Values.{HaveWidths}
 use Rattle.circuit_tables.proofs.CutLemmas.{cut_of, cut_is_cut, cuts_once}
 use Rattle.circuit_tables.proofs.Narrow.{some_at}
-use Rattle.mixed_circuit.specs.Circuit.{Statement}
-use Rattle.mixed_circuit.specs.Circuit as mixed
-use Rattle.mixed_circuit.specs.Language.{states, is_told_slot}
-use Rattle.mixed_circuit.specs.Table as mixed_table
-use Rattle.mixed_circuit.specs.Eval as mixed_eval
-use Rattle.mixed_circuit.proofs.ListLemmas.{same_some}
-use Rattle.mixed_circuit.proofs.EvalLemmas as values
+use Rattle.mixed_language.specs.Circuit.{Statement}
+use Rattle.mixed_language.specs.Circuit as mixed
+use Rattle.mixed_language.specs.Language.{states, is_told_slot}
+use Rattle.mixed_language.specs.Table as mixed_table
+use Rattle.mixed_language.specs.Eval as mixed_eval
+use Rattle.mot_base.proofs.Lists.{same_some}
+use Rattle.mixed_language.proofs.EvalLemmas as values
 use Rattle.bristol_reader.specs.Kinds.{is_arity, output_bit}
 use Rattle.bristol_reader.specs.Circuit.{Gate as BristolGate, are_apart}
 use Rattle.bristol_reader.specs.Circuit as bristol

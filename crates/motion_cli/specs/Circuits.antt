@@ -8,11 +8,11 @@ use Rattle.cli_words.specs.declared.table.Sharing as word
 use Rattle.cli_words.specs.declared.table.Sharing.TheVariants.{B, Y}
 use Rattle.cli_words.specs.Request.{Bristol, bristol_of}
 use Rattle.circuit_tables.specs.Table.{Input, Output, Told}
-use Rattle.mixed_circuit.specs.Circuit as mixed
+use Rattle.mixed_language.specs.Circuit as mixed
 use Rattle.mixed_circuit.specs.Grammar as mixed_text
-use Rattle.mixed_circuit.specs.Table as mixed_table
-use Rattle.mixed_circuit.specs.Eval as mixed_eval
-use Rattle.mixed_circuit.specs.Said as mixed_said
+use Rattle.mixed_language.specs.Table as mixed_table
+use Rattle.mixed_language.specs.Eval as mixed_eval
+use Rattle.mixed_language.specs.Valid as mixed_said
 use Rattle.bristol_reader.specs.Circuit as bristol
 use Rattle.bristol_reader.specs.Grammar as bristol_text
 use Rattle.bristol_reader.specs.Table as bristol_table

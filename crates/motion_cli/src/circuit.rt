@@ -5,7 +5,7 @@ ghost use Rattle.mot_base.specs.Limits.{most_file_bytes, most_gates, most_width}
 ghost use Rattle.cli_words.specs.Request.{bristol_of};
 ghost use Rattle.circuit_tables.specs.Table.{AreNamedApart};
 ghost use Rattle.circuit_tables.specs.Values.{HaveWidths};
-ghost use Rattle.mixed_circuit.specs.Table as mixed_table;
+ghost use Rattle.mixed_language.specs.Table as mixed_table;
 ghost use Rattle.motion_cli.specs.Circuits.{InBristol, circuit_of, Reads, FirstFault, IsFirstFault, inputs_of, outputs_of, parties_of, IsWhole, sharing_of, gates_of, is_built, plan_of, Keeps, IsPlain, notation_of};
 ghost use Rattle.gate_plan.specs.Keeps.{KeepsEvaluation};
 ghost use Rattle.gate_plan.specs.Lowering.{all_gates, all_built, lowered};

@@ -11,7 +11,8 @@ use Rattle.std.proofs.lemmas.Bool.Decides.{nat_tests}
 use Rattle.std.proofs.lemmas.Str.Ascii.{IsAscii-nil, IsAscii-cons}
 use Rattle.std.proofs.lemmas.Str.Parse.{without_leading_plus_none}
 use Rattle.text_lines.specs.Text.{Text, is_empty}
-use Rattle.text_lines.specs.Word.{are_digits, number_in, is_name, is_letter}
+use Rattle.text_lines.specs.Word.{are_digits, number_in}
+use Rattle.mot_base.specs.Names.{is_name, is_letter}
 
 pub both : (a b : Bool) → a ≡ true → b ≡ true → (a && b) ≡ true
 both a b e f = ap (λ x. x && b) e ∙ f

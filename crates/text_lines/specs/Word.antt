@@ -1,21 +1,9 @@
--- The words that are names and those that are numbers.
-use Rattle.std.specs.Prelude.{ℕ, ◌^◌, Bool, false, not, ◌==◌, ◌||◌, ◌&&◌, nat_le, nat_lt, [], ◌∷◌, length, drop, Option, Some, None, if◌then◌else◌}
+-- The words that are numbers.
+use Rattle.std.specs.Prelude.{ℕ, ◌^◌, Bool, false, not, ◌==◌, ◌&&◌, nat_lt, [], ◌∷◌, length, drop, Option, Some, None, if◌then◌else◌}
 use Rattle.std.specs.Char.{is_digit}
 use Rattle.std.specs.List.{list_all}
 use Rattle.std.specs.Str.Parse.{digits_value}
-use Rattle.mot_base.specs.Limits.{most_name_characters}
 use Rattle.text_lines.specs.Text.{Text, is_empty}
-
--- a letter of ASCII or `_`
-abbrev pub is_letter : ℕ → Bool
-is_letter b = (nat_le 65 b && nat_le b 90) || (nat_le 97 b && nat_le b 122) || b == 95
-
--- a name: a letter or `_`, then letters, digits and `_`, 64 characters at most
-abbrev pub is_name : Text → Bool
-is_name [] = false
-is_name (first ∷ more) =
-    is_letter first && list_all (λ b. is_letter b || is_digit b 10) more
-    && nat_lt (length more) most_name_characters
 
 -- one digit or more in a base, whose letters are of either case
 abbrev pub are_digits : ℕ → Text → Bool

@@ -2,7 +2,8 @@ ghost use Rattle.std.specs.Prelude.{◌≡◌, ◌≤◌, ◌||◌, IfSome, IsSo
 ghost use Rattle.std.specs.Str.{IsAscii};
 ghost use Rattle.std.specs.Char.{is_digit};
 ghost use Rattle.std.specs.List.{list_all};
-ghost use Rattle.text_lines.specs.Word.{is_letter, is_name, are_digits, number_in, begins_hexadecimal, number_of};
+ghost use Rattle.text_lines.specs.Word.{are_digits, number_in, begins_hexadecimal, number_of};
+ghost use Rattle.mot_base.specs.Names.{is_letter, is_name};
 
 use mot_base::MAX_NAME_LENGTH;
 

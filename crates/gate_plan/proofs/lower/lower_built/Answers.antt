@@ -1,8 +1,8 @@
 use Rattle.std.proofs.Common.{◌≡◌, ◌+◌, length, take, sym, ◌∙◌, ap, subst, arith}
-use Rattle.mixed_circuit.specs.Circuit.{shape_of}
-use Rattle.mixed_circuit.specs.Table.{inputs_of}
-use Rattle.mixed_circuit.specs.Eval.{inputs_taken}
-use Rattle.mixed_circuit.proofs.EvalLemmas.{some_statement, inputs_next}
+use Rattle.mixed_language.specs.Circuit.{shape_of}
+use Rattle.mixed_language.specs.Table.{inputs_of}
+use Rattle.mixed_language.specs.Eval.{inputs_taken}
+use Rattle.mixed_language.proofs.EvalLemmas.{some_statement, inputs_next}
 use Rattle.plan_gates.specs.Plan.{Gates}
 use Rattle.gate_plan.specs.Lowering.{lowered_to}
 use Rattle.gate_plan.specs.Keeps.{KeepsEvaluation}

@@ -1,5 +1,5 @@
 use Rattle.std.proofs.Common.{◌≡◌, ◌≤◌, length, take}
-use Rattle.mixed_circuit.specs.Table.{inputs_of}
+use Rattle.mixed_language.specs.Table.{inputs_of}
 use Rattle.gate_plan.specs.Lowering.{lowered_to}
 use Rattle.gate_plan.proofs.lower.lower_built.Given as goal
 

@@ -1,8 +1,8 @@
 use Rattle.std.proofs.Common.{suc, ◌≡◌, ◌+◌, List, length, sym, ◌∙◌, ap, ap₂, subst, arith}
 use Rattle.std.specs.Prelude.{IfOk}
-use Rattle.mixed_circuit.specs.Circuit.{Shape, shape_of}
+use Rattle.mixed_language.specs.Circuit.{Shape, shape_of}
 use Rattle.share_types.specs.Wires.{width_of}
-use Rattle.mixed_circuit.specs.declared.language.Operation.TheVariants.{ConstBits}
+use Rattle.mixed_language.specs.declared.language.Operation.TheVariants.{ConstBits}
 use Rattle.plan_gates.specs.Gate.{Gate}
 use Rattle.plan_gates.specs.Plan.{Gates, IsGate, with_gate}
 use Rattle.gate_plan.specs.Lowering.{wire_handled, lowered_to}

@@ -1,6 +1,6 @@
 use Rattle.mixed_circuit.specs.declared.read.Stage.{Stage}
 use Rattle.mixed_circuit.specs.declared.cause.CircuitCause.{CircuitCause}
-use Rattle.mixed_circuit.specs.Circuit.{Circuit}
+use Rattle.mixed_language.specs.Circuit.{Circuit}
 use Rattle.mixed_circuit.specs.Grammar.{circuits}
 use Rattle.text_lines.proofs.ReaderLemmas.{reads_or_faults}
 use Rattle.mixed_circuit.proofs.read.each_text_reads_or_faults.Goals as goal

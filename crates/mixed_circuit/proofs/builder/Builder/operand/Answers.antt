@@ -1,6 +1,6 @@
 use Rattle.std.proofs.Common.{sym, ◌∙◌, subst, ◌<◌, length}
-use Rattle.mixed_circuit.specs.Circuit.{Circuit}
-use Rattle.mixed_circuit.proofs.PlaceLemmas.{place_of-within}
+use Rattle.mixed_language.specs.Circuit.{Circuit}
+use Rattle.mixed_language.proofs.PlaceLemmas.{place_of-within}
 use Rattle.mixed_circuit.proofs.builder.Builder.operand.Goals as goal
 
 pub wire-requires : goal.wire-requires

@@ -1,6 +1,6 @@
 use Rattle.std.proofs.Common.{sym, ◌∙◌, subst}
 use Rattle.std.proofs.lemmas.Bool.{false≢true}
-use Rattle.mixed_circuit.specs.Said.{IsCircuit}
+use Rattle.mixed_language.specs.Valid.{IsCircuit}
 use Rattle.mixed_circuit.proofs.NameLemmas.{place_of-none}
 use Rattle.mixed_circuit.proofs.builder.Builder.place.Goals as goal
 

@@ -1,6 +1,6 @@
 use Rattle.std.proofs.Common.{sym, ◌∙◌, ap}
-use Rattle.mixed_circuit.specs.Circuit.{Circuit, place_of}
-use Rattle.mixed_circuit.proofs.PlaceLemmas.{place_of-output}
+use Rattle.mixed_language.specs.Circuit.{Circuit, place_of}
+use Rattle.mixed_language.proofs.PlaceLemmas.{place_of-output}
 use Rattle.mixed_circuit.proofs.builder.Builder.with_output.Goals as goal
 
 pub invariant_of-result : goal.invariant_of-result

@@ -1,8 +1,8 @@
 use Rattle.std.proofs.Common.{ℕ, ◌≡◌, sym, ◌∙◌, ap, cond, Some, Option, subst}
 use Rattle.std.specs.Str.{bytes_eq}
-use Rattle.mixed_circuit.specs.Circuit.{Circuit, Statement, place_of}
+use Rattle.mixed_language.specs.Circuit.{Circuit, Statement, place_of}
 use Rattle.mixed_circuit.specs.Names.{place_in}
-use Rattle.mixed_circuit.specs.Said.{IsSaid}
+use Rattle.mixed_language.specs.Valid.{IsSaid}
 use Rattle.mixed_circuit.proofs.NameLemmas.{place_of-with_value}
 use Rattle.text_lines.specs.Text.{Text}
 use Rattle.mixed_circuit.proofs.builder.Builder.with_value.Goals as goal

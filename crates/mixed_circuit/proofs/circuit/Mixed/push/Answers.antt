@@ -1,8 +1,0 @@
-use Rattle.mixed_circuit.proofs.CircuitLemmas.{IsCircuit-pushed}
-use Rattle.mixed_circuit.proofs.circuit.Mixed.push.Goals as goal
-
-pub invariant_of-self-2 : goal.invariant_of-self-2
-invariant_of-self-2 c = IsCircuit-pushed _ _ _ c.args.statement _ c.self.view_is c.self.invariant c.requires.few c.requires.said c.in_ok-push.ensures.items
-
-pub returns-clause-circuit : goal.returns-clause-circuit
-returns-clause-circuit c = IsCircuit-pushed _ _ _ c.args.statement _ c.self.view_is c.self.invariant c.requires.few c.requires.said c.in_ok-push.ensures.items

@@ -1,5 +1,0 @@
-use Rattle.mixed_circuit.proofs.EvalLemmas.{xor_word}
-use Rattle.mixed_circuit.proofs.evaluate.differing.Goals as goal
-
-pub returns : goal.returns
-returns c = xor_word c.args.x c.args.y c.ranges.x.fits c.ranges.y.fits

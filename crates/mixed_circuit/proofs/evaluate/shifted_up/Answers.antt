@@ -1,8 +1,0 @@
-use Rattle.std.proofs.Common.{◌∙◌}
-use Rattle.mixed_circuit.proofs.EvalLemmas.{moved}
-use Rattle.mixed_circuit.proofs.evaluate.shifted_up.Goals as goal
-
-pub returns : goal.returns
-returns c =
-    let shown = rw c.from.ensures at c.checked_shl.ensures in
-    c.unwrap_or.ensures ∙ moved c.args.x c.args.places c.checked_shl.result shown
