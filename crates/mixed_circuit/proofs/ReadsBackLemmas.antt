@@ -1,23 +1,25 @@
 -- The canonical text of a circuit reads as that circuit.
-use Rattle.std.proofs.Common.{ℕ, ◌≡◌, ◌≤◌, Bool, true, ◌&&◌, List, [], ◌∷◌, ◌++◌, length, map, Some, Ok, refl, sym, ◌∙◌, ap, subst, arith, append_assoc, append-nil}
+use Rattle.std.proofs.lemmas.Option.{slice_get_within}
+use Rattle.std.proofs.lemmas.List.{length-append, take-append-le}
+use Rattle.std.proofs.Common.{ℕ, ◌≡◌, ◌≤◌, Bool, true, ◌&&◌, List, [], ◌∷◌, ◌++◌, length, map, Some, Ok, refl, sym, ◌∙◌, ap, subst, arith, append_assoc, append-nil, ◌<◌}
 use Rattle.std.specs.Prelude.{slice_get, codes}
 use Rattle.std.specs.List.{list_all, join_with_byte, flat_map}
 use Rattle.std.specs.Fmt.{decimal}
 use Rattle.std.proofs.lemmas.List.Folds.{flat_map-map}
 use Rattle.std.proofs.Math.Seq.{take-append_seam}
-use Rattle.mot_base.specs.Limits.{least_parties, most_parties}
+use Rattle.mot_base.specs.Limits.{least_parties, most_parties, most_statements}
 use Rattle.mixed_circuit.specs.declared.read.Stage.{Stage}
 use Rattle.mixed_circuit.specs.declared.read.Stage.TheVariants.{Start, Titled, Body}
 use Rattle.mixed_language.specs.Circuit.{Circuit, Statement, with_statement, no_statements}
 use Rattle.mixed_circuit.specs.Line.{operation_of, parts_of, said}
-use Rattle.mixed_language.specs.Valid.{IsSaid, IsCircuit}
+use Rattle.mixed_language.specs.Valid.{IsStatement, IsCircuit}
 use Rattle.mixed_circuit.specs.Grammar.{circuits, adds, behind, behind_words, parties_of, Reads}
 use Rattle.mixed_circuit.specs.Written.{statement_words, line_of, headers, canonical}
 use Rattle.mixed_language.proofs.CircuitLemmas.{fields}
 use Rattle.text_lines.proofs.JoinedLemmas.{is_plain_word, is_inner, ended, joined_inner, joined_allowed, line_words_joined, lines_ended}
 use Rattle.mixed_circuit.proofs.SlotLemmas.{decimal_within}
 use Rattle.text_lines.proofs.DecimalLemmas.{decimal_plain}
-use Rattle.mixed_circuit.proofs.SaidAgainLemmas.{SaysAgain, says_again}
+use Rattle.mixed_circuit.proofs.SaidAgainLemmas.{SaysAgain, says_again, there_in_front}
 use Rattle.text_lines.specs.LineReader.{Lead}
 use Rattle.text_lines.specs.Text.{Text, lines}
 use Rattle.text_lines.proofs.WordLemmas.{both}
@@ -88,10 +90,23 @@ last_there : (before : List Statement) (s : Statement) (after : List Statement) 
 last_there [] s after = refl
 last_there (t ∷ before) s after = last_there before s after
 
+-- the first statements of a circuit are a circuit
+front_circuit : (parties : ℕ) (before after : List Statement) → IsCircuit (fields parties (before ++ after)) →
+    IsCircuit (fields parties before)
+front_circuit parties before after circuit = record {
+  some_parties = circuit.some_parties;
+  most_parties = circuit.most_parties;
+  few = let all = circuit.few in let long = length-append before after in omega (arith, all, long);
+  each = λ at t there.
+      let within = slice_get_within before at t there in
+      subst (λ (front : List Statement). IsStatement parties front t) (take-append-le at before after (omega (arith, within)))
+      (circuit.each at t (there_in_front before after at t there));
+}
+
 said_there : (parties : ℕ) (before : List Statement) (s : Statement) (after : List Statement) →
-    IsCircuit (fields parties (before ++ s ∷ after)) → IsSaid parties before s
+    IsCircuit (fields parties (before ++ s ∷ after)) → IsStatement parties before s
 said_there parties before s after circuit =
-    subst (λ (front : List Statement). IsSaid parties front s) (take-append_seam before (s ∷ after))
+    subst (λ (front : List Statement). IsStatement parties front s) (take-append_seam before (s ∷ after))
     (circuit.each (length before) s (last_there before s after))
 
 written_behind : (parties : ℕ) (all before after : List Statement) → IsCircuit (fields parties all) →
@@ -103,7 +118,10 @@ written_behind parties all before [] circuit cut = record {
 written_behind parties all before (s ∷ after) circuit cut =
     let whole = subst (λ (ss : List Statement). IsCircuit (fields parties ss)) (sym cut) circuit in
     let said = said_there parties before s after whole in
-    let again = says_again parties before (s ∷ after) s circuit.most_parties said in
+    let room : length before < most_statements =
+    (let all = whole.few in let long = length-append before (s ∷ after) in omega (arith, all, long)) in
+    let again =
+    says_again parties before (s ∷ after) s circuit.most_parties (front_circuit parties before (s ∷ after) whole) room said in
     let P : List Statement → Type 0 = λ ss. SaysAgain (fields parties before) s (statement_words ss s) in
     let words = subst P cut again in
     let next = append_assoc before (s ∷ []) after ∙ cut in

@@ -8,9 +8,8 @@ ghost use Rattle.mixed_language.specs.Valid.{IsCircuit, IsStatement};
 ghost use Rattle.mixed_circuit.specs.Gives.{Gives};
 
 use crate::cause::{CircuitCause, LineError};
-use mixed_language::{Mixed, NewStatement};
 use crate::names::Places;
-use mixed_language::Operand;
+use mixed_language::{Mixed, NewStatement, Operand};
 use mot_base::MAX_STATEMENTS;
 use std::alloc::{AllocError, Global};
 use std::marker::Model;
@@ -117,7 +116,11 @@ impl<'a> Builder<'a> {
     }
 
     /// The circuit with one statement more.
-    pub fn with_statement(self, alloc: Global, said: NewStatement<'a>) -> Result<Builder<'a>, AllocError>
+    pub fn with_statement(
+        self,
+        alloc: Global,
+        said: NewStatement<'a>,
+    ) -> Result<Builder<'a>, AllocError>
         requires few { length self.statements < most_statements }
         requires statement { IsStatement self.parties self.statements said }
         ensures { IfOk result (λ b. b ≡ with_statement self.entry said.entry) }

@@ -6,10 +6,10 @@ ghost use Rattle.mixed_circuit.specs.Stated.{stated, AreWhole};
 
 use crate::builder::Builder;
 use crate::cause::{CircuitCause, LineError};
-use mixed_language::NewStatement;
 use crate::operand::{sharing_of_all, width_of_all};
 use crate::raw::{Raw, check, raw_of};
 use crate::statement::statement_said;
+use mixed_language::NewStatement;
 use std::alloc::Global;
 
 /// The circuit with the statement that the words of a line say.

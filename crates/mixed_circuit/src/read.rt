@@ -8,9 +8,9 @@ ghost use Rattle.mixed_circuit.specs.Line.{OneOperation};
 
 use crate::builder::Builder;
 use crate::cause::{CircuitCause, CircuitError, LineError};
-use mixed_language::Mixed;
 use crate::line::with_line;
 use crate::raw::{check, number_from_to};
+use mixed_language::Mixed;
 use mot_base::{MAX_PARTIES, MIN_PARTIES};
 use std::alloc::Global;
 use text_lines::{Lines, are_allowed, line_words_of};

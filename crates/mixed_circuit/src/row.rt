@@ -6,9 +6,8 @@ ghost use Rattle.mixed_language.specs.Circuit.{shape_of};
 ghost use Rattle.share_types.specs.Wires.{party_told};
 ghost use Rattle.mixed_circuit.specs.Rows.{row_shape};
 
-use mixed_language::Form;
-use mixed_language::Operation;
 use circuit_tables::Receiver;
+use mixed_language::{Form, Operation};
 use mot_base::{MAX_WIDTH, Party};
 use share_types::{Bits, Sharing};
 

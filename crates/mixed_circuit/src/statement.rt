@@ -8,12 +8,9 @@ ghost use Rattle.share_types.specs.Wires.{party_told, wire_type};
 ghost use Rattle.mixed_circuit.specs.Line.{statement_of};
 ghost use Rattle.mixed_circuit.specs.Stated.{stated, AreWhole, shape_stated};
 
-use mixed_language::NewStatement;
-use mixed_language::Form;
-use mixed_language::Operation;
-use mixed_language::Operand;
 use crate::raw::Raw;
 use circuit_tables::Receiver;
+use mixed_language::{Form, NewStatement, Operand, Operation};
 use mot_base::Party;
 use share_types::{Bits, Sharing, WireType};
 use text_lines::name_text;

@@ -7,9 +7,8 @@ ghost use Rattle.mixed_circuit.specs.Written.{letter_word, told_word, operand_wo
 ghost use Rattle.mixed_language.specs.Valid.{AreEarlier};
 ghost use Rattle.mixed_circuit.specs.Grammar.{Reads};
 
-use mixed_language::Mixed;
-use mixed_language::Slot;
 use crate::row::{Row, row_of};
+use mixed_language::{Mixed, Slot};
 use mot_base::{NoMemory, Party};
 use share_types::Sharing;
 use std::alloc::Global;

@@ -1,5 +1,7 @@
 -- The inputs and outputs of a circuit, one statement after another, and the names of inputs.
-use Rattle.std.proofs.Common.{ℕ, ◌≡◌, ◌<◌, ◌≤◌, ◌+◌, ◌&&◌, Bool, true, false, List, [], ◌∷◌, ◌++◌, length, take, drop, Option, Some, None, zero, suc, add-one, sym, refl, ◌∙◌, ap, subst, cond, arith, append_assoc}
+use Rattle.mixed_language.proofs.PlaceLemmas.{place_of-named}
+use Rattle.std.proofs.lemmas.Bool.{cases_eq, cases_lt}
+use Rattle.std.proofs.Common.{ℕ, ◌≡◌, ◌<◌, ◌≤◌, ◌+◌, ◌&&◌, Bool, true, false, List, [], ◌∷◌, ◌++◌, length, take, drop, Option, Some, None, zero, suc, add-one, sym, refl, ◌∙◌, ap, subst, cond, arith, append_assoc, ◌≢◌, ⊎_elim}
 use Rattle.std.specs.Prelude.{slice_get, IfSome, is_some, option_map}
 use Rattle.std.specs.Str.{bytes_eq}
 use Rattle.std.proofs.lemmas.Option.{slice_get_within, get_or_from_slice_get}
@@ -89,6 +91,27 @@ circuit_names c circuit = record {
       place_of-found (take q c.statements) p s there value (ap (place_of (take q c.statements)) same ∙ none);
   value = λ p s there owner. input_value c.parties (take p c.statements) s (circuit.each p s there) owner;
 }
+
+-- a value of a circuit is the one that its name is of
+pub own_place : (c : Circuit) (at : ℕ) (s : Statement) → IsCircuit c → slice_get c.statements at ≡ Some s →
+    is_some s.wire ≡ true → place_of c.statements s.name ≡ Some at
+own_place c at s circuit there value = placed (place_of c.statements s.name) refl
+  where
+    placed : (o : Option ℕ) → place_of c.statements s.name ≡ o → o ≡ Some at
+    placed None e = absurd (place_of-found c.statements at s there value e)
+    placed (Some q) e =
+        let found = place_of-named c.statements s.name q e in
+        let names = circuit_names c circuit in
+        ⊎_elim
+        (λ (same : q ≡ at). ap Some same)
+        (λ (other : q ≢ at).
+        absurd (⊎_elim
+        (λ (less : q < at).
+        names.apart q at found.s s found.there there less found.value value found.named)
+        (λ (more : at ≤ q).
+        names.apart at q s found.s there found.there (omega (arith, more, other)) value found.value (sym found.named))
+        (cases_lt q at)))
+        (cases_eq q at)
 
 names_behind : (s : Statement) (ss : List Statement) → HaveNamesApart (s ∷ ss) → HaveNamesApart ss
 names_behind s ss names = record {

@@ -2,7 +2,7 @@ use Rattle.std.proofs.Common.{ℕ, ◌≡◌, sym, ◌∙◌, ap, cond, Some, Op
 use Rattle.std.specs.Str.{bytes_eq}
 use Rattle.mixed_language.specs.Circuit.{Circuit, Statement, place_of}
 use Rattle.mixed_circuit.specs.Names.{place_in}
-use Rattle.mixed_language.specs.Valid.{IsSaid}
+use Rattle.mixed_language.specs.Valid.{IsStatement}
 use Rattle.mixed_circuit.proofs.NameLemmas.{place_of-with_value}
 use Rattle.text_lines.specs.Text.{Text}
 use Rattle.mixed_circuit.proofs.builder.Builder.with_value.Goals as goal
@@ -10,7 +10,7 @@ use Rattle.mixed_circuit.proofs.builder.Builder.with_value.Goals as goal
 pub invariant_of-result : goal.invariant_of-result
 invariant_of-result c =
     let before = c.self.inside.circuit in
-    let said = subst (λ (x : Circuit). IsSaid x.parties x.statements c.args.said) (sym c.self.view_is) c.requires.said in
+    let said = subst (λ (x : Circuit). IsStatement x.parties x.statements c.args.said) (sym c.self.view_is) c.requires.statement in
     let key : _ ≡ c.args.said.name = ap (λ (s : Statement). s.name) c.said.view_is in (
       c.in_ok-circuit.ensures.circuit,
       λ other.
