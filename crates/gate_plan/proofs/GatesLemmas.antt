@@ -12,7 +12,7 @@ use Rattle.mixed_language.specs.declared.language.Operation.TheVariants.{InputWo
 use Rattle.mixed_language.specs.Language.{domain_of, is_in, gives, states, is_name_slot}
 use Rattle.mixed_language.specs.Circuit.{Circuit, Statement, wire_at}
 use Rattle.share_types.specs.Wires.{wire_type, width_of}
-use Rattle.mixed_language.specs.Valid.{IsCircuit}
+use Rattle.mixed_language.specs.Valid.{IsStatement, IsCircuit}
 use Rattle.mixed_language.specs.Table.{told_value}
 use Rattle.mot_base.proofs.Lists.{same_some}
 use Rattle.mixed_language.proofs.WidthLemmas.{took}
@@ -20,7 +20,6 @@ use Rattle.plan_gates.specs.Gate as plan
 use Rattle.plan_gates.specs.Gate.{Kind, Gate}
 use Rattle.gate_plan.specs.Lowering.{Source, kind_made, source_of, handled_by, wire_handled, width_handled, is_keys, is_conversion, is_built, all_built, gates_of, gates_in, gates_before, gate_list, expansion, lowered_before}
 use Rattle.plan_gates.proofs.NeedsLemmas.{last, kept}
-use Rattle.gate_plan.proofs.RowLemmas.{IsRow, said_row}
 use Rattle.gate_plan.proofs.ValidLemmas.{Agree, Agrees, given_of}
 
 -- ---- what is built
@@ -190,8 +189,8 @@ module _ (c : Circuit) (circuit : IsCircuit c) (built : all_built c ≡ true) wh
       let parts = both_not (is_conversion s.shape.operation) (is_keys (wire_handled all s)) (plain_there (is_built all) all at s built there) in
       record { direct = parts.0; open_wire = parts.1 }
 
-  pub row_at : (at : ℕ) (s : Statement) → slice_get all at ≡ Some s → IsRow c.parties (take at all) s
-  row_at at s there = said_row c.parties (take at all) s (circuit.each at s there)
+  pub row_at : (at : ℕ) (s : Statement) → slice_get all at ≡ Some s → IsStatement c.parties (take at all) s
+  row_at at s there = circuit.each at s there
 
   nothing : (xs : List Statement) (k : ℕ) → slice_get xs k ≡ None → length xs ≤ k
   nothing [] k e = omega arith
@@ -247,7 +246,7 @@ module _ (c : Circuit) (circuit : IsCircuit c) (built : all_built c ≡ true) wh
       (wire_handled all s ≡ Some w) × (states is_name_slot s.shape.operation ≡ true)
   handled_own at s w there own = by_name (states is_name_slot s.shape.operation) refl
     where
-      row : IsRow c.parties (take at all) s
+      row : IsStatement c.parties (take at all) s
       row = row_at at s there
 
       by_name : (b : Bool) → states is_name_slot s.shape.operation ≡ b → (wire_handled all s ≡ Some w) × (states is_name_slot s.shape.operation ≡ true)

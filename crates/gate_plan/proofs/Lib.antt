@@ -1,4 +1,3 @@
-pub mod RowLemmas
 pub mod HandledLemmas
 pub mod ValidLemmas
 pub mod GatesLemmas

@@ -10,10 +10,10 @@ use Rattle.mixed_language.specs.declared.language.Operation.{Operation}
 use Rattle.mixed_language.specs.declared.language.Operation.TheVariants.{ConstBits}
 use Rattle.mixed_language.specs.declared.operand.Operand.{Operand}
 use Rattle.mixed_language.specs.Language.{gives, states, is_name_slot, widths_of, arity_of, domain_of, is_in}
-use Rattle.mixed_circuit.specs.Line.{width_given}
+use Rattle.mixed_language.specs.Operands.{width_by}
 use Rattle.mixed_language.specs.Circuit.{Circuit, Statement, Shape, wire_at}
 use Rattle.share_types.specs.Wires.{wire_type, width_of, party_told}
-use Rattle.mixed_language.specs.Valid.{IsCircuit}
+use Rattle.mixed_language.specs.Valid.{IsStatement, IsCircuit}
 use Rattle.mixed_language.specs.Wide.{IsWide}
 use Rattle.mixed_language.specs.Table.{inputs_of, told_value, receiver_of}
 use Rattle.mot_base.proofs.Lists.{same_some}
@@ -22,7 +22,6 @@ use Rattle.plan_gates.specs.declared.gate.GateKind.{GateKind}
 use Rattle.plan_gates.specs.Gate.{Kind, kind_of}
 use Rattle.plan_gates.specs.Plan.{IsGate}
 use Rattle.gate_plan.specs.Lowering.{Source, kind_made, source_by, source_of, wire_handled, width_handled, is_keys, is_word, all_built, operand_gate, gates_before, lowered_before}
-use Rattle.gate_plan.proofs.RowLemmas.{IsRow}
 use Rattle.gate_plan.proofs.ValidLemmas.{Sound, IsValid, valid, valid_output, OneOperand, one_operand}
 use Rattle.gate_plan.proofs.GatesLemmas.{Named, Names, Tells, named, is_plain, row_at, numbers, gate_at, gate_kind, handled_own, agree_to, flat_some}
 
@@ -39,7 +38,7 @@ module _ (c : Circuit) (circuit : IsCircuit c) (built : all_built c ≡ true) (n
   abbrev all : List Statement
   all = c.statements
 
-  pub row : IsRow c.parties (take n all) s
+  pub row : IsStatement c.parties (take n all) s
   row = row_at c circuit built n s there
 
   abbrev pub v : Source
@@ -60,7 +59,7 @@ module _ (c : Circuit) (circuit : IsCircuit c) (built : all_built c ≡ true) (n
       ap (λ xs. slice_get xs i) row.places ∙ (slice_get-map (λ (x : Operand). x.at) row.operands i ∙ ap (option_map (λ (x : Operand). x.at)) e)
 
   pub operand_small : (i : ℕ) (o : Operand) → slice_get row.operands i ≡ Some o → o.at < n
-  operand_small i o e = (wire_among o.at o.wire (row.found i o e)).0
+  operand_small i o e = (wire_among o.at o.wire (row.uses.found i o e)).0
 
   pub numbered : (i : ℕ) (o : Operand) → slice_get row.operands i ≡ Some o → operand_gate (gates_before c.parties all) (slice_get s.shape.operands i) ≡ o.at
   numbered i o e =
@@ -68,19 +67,19 @@ module _ (c : Circuit) (circuit : IsCircuit c) (built : all_built c ≡ true) (n
       let few = within in
       ap (operand_gate (gates_before c.parties all)) (operand_place i o e) ∙ numbers c circuit built o.at (omega arith)
 
-  pub sound : Sound c.parties (take n all) s.shape.operation row.sharing v row.parts row.operands row.width
+  pub sound : Sound c.parties (take n all) s.shape.operation row.sharing v s.shape.width s.shape.place row.operands row.width
   sound = record {
-    found = row.found;
-    shared = row.shared;
+    found = row.uses.found;
+    shared = row.uses.shared;
     arity = row.arity;
     wide = row.wide;
     x = numbered 0;
     y = numbered 1;
-    party = party_some c.parties s.shape.party (let some = circuit.some_parties in omega arith) row.party;
-    to = told_some c.parties s.shape.party row.party;
-    place = sym row.same_place;
-    constant = subst (λ w. s.shape.constant < 2 ^ w) (sym row.same_width) row.fits;
-    bare = λ e. row.same_width ∙ row.bare e;
+    party = party_some c.parties s.shape.party (let some = circuit.some_parties in omega arith) row.numbers.party;
+    to = told_some c.parties s.shape.party row.numbers.party;
+    place = refl;
+    constant = row.numbers.fits;
+    bare = row.numbers.no_width;
   }
 
   -- how the value of the statement is shared, or the one that it tells
@@ -105,7 +104,7 @@ module _ (c : Circuit) (circuit : IsCircuit c) (built : all_built c ≡ true) (n
           wide = wide;
           unkeyed = unkeyed_by w handled;
           valid = valid c.parties (take n all) (lowered_before c.parties all n) (agree_to c circuit built n (omega (arith, within)))
-              s.shape.operation row.sharing v row.parts row.operands row.width row.domain sound e wide (unkeyed_by w handled)
+              s.shape.operation row.sharing v s.shape.width s.shape.place row.operands row.width row.domain sound e wide (unkeyed_by w handled)
               (ap width_handled handled);
         },
       )
@@ -115,11 +114,11 @@ module _ (c : Circuit) (circuit : IsCircuit c) (built : all_built c ≡ true) (n
       told t =
           let w = t.x.wire in
           let place = operand_place 0 t.x t.first in
-          let wired = wire_among t.x.at w (row.found 0 t.x t.first) in
+          let wired = wire_among t.x.at w (row.uses.found 0 t.x t.first) in
           let at : told_value s ≡ t.x.at = slice_index_some s.shape.operands 0 t.x.at place in
           let handled : wire_handled all s ≡ Some w = rw e (ap (wire_at all) at ∙ wired.1) in
           let wide = circuit_wide c circuit t.x.at w wired.1 in
-          let P : Operation → Type 0 = λ op. Sound c.parties (take n all) op row.sharing v row.parts row.operands row.width in (
+          let P : Operation → Type 0 = λ op. Sound c.parties (take n all) op row.sharing v s.shape.width s.shape.place row.operands row.width in (
             w,
             record {
               handled = handled;
@@ -127,7 +126,7 @@ module _ (c : Circuit) (circuit : IsCircuit c) (built : all_built c ≡ true) (n
               unkeyed = unkeyed_by w handled;
               valid = subst (λ op. IsValid c.parties (take n all) (lowered_before c.parties all n) (agree_to c circuit built n (omega (arith, within))) (kind_made op v) w) (sym e)
                   (valid_output c.parties (take n all) (lowered_before c.parties all n) (agree_to c circuit built n (omega (arith, within)))
-                  row.sharing v row.parts row.operands row.width w (subst P e sound)
+                  row.sharing v s.shape.width s.shape.place row.operands row.width w (subst P e sound)
                   (λ o f. ap (λ (x : Operand). x.wire) (same_some t.x o (sym t.first ∙ f))) wide (unkeyed_by w handled) (ap is_word handled));
             },
           )
@@ -197,12 +196,12 @@ module _ (c : Circuit) (circuit : IsCircuit c) (built : all_built c ≡ true) (n
   pub constant_width : (w : WireType) → Some w ≡ wire_handled all s → s.shape.operation ≡ ConstBits → s.shape.width ≡ width_of w
   constant_width w wired e =
       let h = handled in
-      let P : Operation → Type 0 = λ op. width_given (widths_of op) row.parts row.operands ≡ Some row.width in
-      let stated : row.parts.width ≡ row.width = same_some _ _ (subst P e row.wide) in
+      let P : Operation → Type 0 = λ op. width_by (widths_of op) s.shape.width s.shape.place row.operands ≡ Some row.width in
+      let stated : s.shape.width ≡ row.width = same_some _ _ (subst P e row.wide) in
       let named : states is_name_slot s.shape.operation ≡ true = rw e refl in
       let own : s.wire ≡ Some (wire_type (gives s.shape.operation row.sharing) row.width) = row.wire ∙ rw named refl in
       let same : wire_type (gives s.shape.operation row.sharing) row.width ≡ w = same_some _ _ (sym (handled_own c circuit built n s _ there own).0 ∙ sym wired) in
-      sym row.same_width ∙ (stated ∙ (of_bits row.sharing (subst (λ op. is_in (domain_of op) row.sharing ≡ true) e row.domain) ∙ ap width_of (ap (λ op. wire_type (gives op row.sharing) row.width) (sym e) ∙ same)))
+      (stated ∙ (of_bits row.sharing (subst (λ op. is_in (domain_of op) row.sharing ≡ true) e row.domain) ∙ ap width_of (ap (λ op. wire_type (gives op row.sharing) row.width) (sym e) ∙ same)))
     where
       of_bits : (given : Sharing) → is_in (domain_of ConstBits) given ≡ true → row.width ≡ width_of (wire_type (gives ConstBits given) row.width)
       of_bits sharing.A e = cc

@@ -17,7 +17,7 @@ use Rattle.mixed_language.specs.declared.language.Widths.TheVariants.{Cut, Joine
 use Rattle.mixed_language.specs.Language.{domain_of, widths_of, is_in, gives, arity_of, states, is_name_slot, is_width_slot}
 use Rattle.mixed_language.specs.Circuit.{Statement, wire_at}
 use Rattle.share_types.specs.Wires.{is_shared, wire_type, width_of, party_told}
-use Rattle.mixed_circuit.specs.Line.{Parts, width_given}
+use Rattle.mixed_language.specs.Operands.{width_by}
 use Rattle.mixed_language.specs.Operands.{alike_width}
 use Rattle.mixed_language.specs.Wide.{IsWide}
 use Rattle.mot_base.proofs.Lists.{same_some}
@@ -44,18 +44,18 @@ pub record Agree (before : List Statement) (gates : List Gate) : Type 0 where
   pub at : (x : ℕ) (w : WireType) → wire_at before x ≡ Some w → is_keys (Some w) ≡ false → Agrees gates x w
 
 -- what an operation takes and gives, from what its line states
-pub record Sound (parties : ℕ) (before : List Statement) (op : Operation) (given : Sharing) (v : Source) (parts : Parts) (os : List Operand) (width : ℕ) : Type 0 where
+pub record Sound (parties : ℕ) (before : List Statement) (op : Operation) (given : Sharing) (v : Source) (stated start : ℕ) (os : List Operand) (width : ℕ) : Type 0 where
   pub found : (i : ℕ) (x : Operand) → slice_get os i ≡ Some x → wire_at before x.at ≡ Some x.wire
   pub shared : (i : ℕ) (x : Operand) → slice_get os i ≡ Some x → is_shared given x.wire ≡ true
   pub arity : length os ≡ arity_of op
-  pub wide : width_given (widths_of op) parts os ≡ Some width
+  pub wide : width_by (widths_of op) stated start os ≡ Some width
   pub x : (o : Operand) → slice_get os 0 ≡ Some o → v.x ≡ o.at
   pub y : (o : Operand) → slice_get os 1 ≡ Some o → v.y ≡ o.at
   pub party : v.party < parties
   pub to : IfSome (party_told v.to) (λ party. party < parties)
-  pub place : v.place ≡ parts.place
-  pub constant : v.constant < 2 ^ parts.width
-  pub bare : states is_width_slot op ≡ false → parts.width ≡ 64
+  pub place : v.place ≡ start
+  pub constant : v.constant < 2 ^ stated
+  pub bare : states is_width_slot op ≡ false → stated ≡ 64
 
 pub record OneOperand (os : List Operand) : Type 0 where
   pub x : Operand
@@ -123,7 +123,7 @@ module _ (parties : ℕ) (before : List Statement) (gates : List Gate) (agree : 
   vector_used x (wire.B width) there e = used x (wire.B width) Vector there refl refl
   vector_used x (wire.Y width) there e = cc
 
-  module _ (op : Operation) (given : Sharing) (v : Source) (parts : Parts) (os : List Operand) (width : ℕ) (sound : Sound parties before op given v parts os width) where
+  module _ (op : Operation) (given : Sharing) (v : Source) (stated start : ℕ) (os : List Operand) (width : ℕ) (sound : Sound parties before op given v stated start os width) where
     word_x : (o : Operand) → slice_get os 0 ≡ Some o → given ≡ sharing.A → IsUsed Word v.x 64
     word_x o e a =
         subst (λ n. IsUsed Word n 64) (sym (sound.x o e))
@@ -165,25 +165,25 @@ module _ (parties : ℕ) (before : List Statement) (gates : List Gate) (agree : 
         let w = one_width t.x width (subst (λ zs. alike_width zs ≡ Some width) t.is alike) in
         subst (IsUsed Vector v.x) w (vector_x t.x t.first b)
 
-    cut_used : length os ≡ 1 → given ≡ sharing.B → width_given Cut parts os ≡ Some width →
+    cut_used : length os ≡ 1 → given ≡ sharing.B → width_by Cut stated start os ≡ Some width →
         (IsOperand gates Vector v.x) × (v.place + width ≤ width_at gates v.x)
     cut_used one b cut =
         let t = one_operand os one in
         let u = vector_x t.x t.first b in
-        let parted = tested (nat_le (parts.place + parts.width) (width_of t.x.wire)) parts.width width (subst (λ zs. width_given Cut parts zs ≡ Some width) t.is cut) in
+        let parted = tested (nat_le (start + stated) (width_of t.x.wire)) stated width (subst (λ zs. width_by Cut stated start zs ≡ Some width) t.is cut) in
         let within = leb-true _ _ parted.0 in
         let same = parted.1 in
         let place = sound.place in
         let high = u.1 in
         (u.0, omega arith)
 
-    join_used : length os ≡ 2 → given ≡ sharing.B → width_given Joined parts os ≡ Some width →
+    join_used : length os ≡ 2 → given ≡ sharing.B → width_by Joined stated start os ≡ Some width →
         (IsOperand gates Vector v.x) × (IsOperand gates Vector v.y) × (width ≡ width_at gates v.x + width_at gates v.y)
     join_used two b joined =
         let t = two_operands os two in
         let u = vector_x t.x t.first b in
         let z = vector_y t.y t.second b in
-        let parted = tested (nat_le (width_of t.x.wire + width_of t.y.wire) most_width) (width_of t.x.wire + width_of t.y.wire) width (subst (λ zs. width_given Joined parts zs ≡ Some width) t.is joined) in
+        let parted = tested (nat_le (width_of t.x.wire + width_of t.y.wire) most_width) (width_of t.x.wire + width_of t.y.wire) width (subst (λ zs. width_by Joined stated start zs ≡ Some width) t.is joined) in
         let same = parted.1 in
         let low = u.1 in
         let high = z.1 in
@@ -200,84 +200,84 @@ module _ (parties : ℕ) (before : List Statement) (gates : List Gate) (agree : 
   whole_constant : (c width : ℕ) → c < 2 ^ width → width ≡ 64 → c < 2 ^ 64
   whole_constant c width h e = subst (λ n. c < 2 ^ n) e h
 
-  pub valid : (op : Operation) (given : Sharing) (v : Source) (parts : Parts) (os : List Operand) (width : ℕ) →
-      is_in (domain_of op) given ≡ true → Sound parties before op given v parts os width →
+  pub valid : (op : Operation) (given : Sharing) (v : Source) (stated start : ℕ) (os : List Operand) (width : ℕ) →
+      is_in (domain_of op) given ≡ true → Sound parties before op given v stated start os width →
       states is_name_slot op ≡ true → IsWide (wire_type (gives op given) width) → is_keys (Some (wire_type (gives op given) width)) ≡ false →
       v.width ≡ width_of (wire_type (gives op given) width) →
       IsValid (kind_made op v) (wire_type (gives op given) width)
-  valid InputWord sharing.A v parts os width domain sound named wide plain same =
+  valid InputWord sharing.A v stated start os width domain sound named wide plain same =
       record { some_width = omega arith; in_width = omega arith; word = λ e. refl; small = omega arith; uses = tt; fit = tt; party = sound.party }
-  valid InputBits sharing.B v parts os width domain sound named wide plain same =
+  valid InputBits sharing.B v stated start os width domain sound named wide plain same =
       record { some_width = wide.0; in_width = wide.1; word = λ e. cc; small = pow_pos width; uses = tt; fit = tt; party = sound.party }
-  valid ConstWord sharing.A v parts os width domain sound named wide plain same =
-      record { some_width = omega arith; in_width = omega arith; word = λ e. refl; small = whole_constant v.constant parts.width sound.constant (sound.bare refl); uses = tt; fit = tt; party = tt }
-  valid ConstBits sharing.B v parts os width domain sound named wide plain same =
-      record { some_width = wide.0; in_width = wide.1; word = λ e. cc; small = subst (λ n. v.constant < 2 ^ n) (same_some parts.width width sound.wide) sound.constant; uses = tt; fit = tt; party = tt }
-  valid Add sharing.A v parts os width domain sound named wide plain same =
-      let u = words_used Add sharing.A v parts os width sound sound.arity refl in
+  valid ConstWord sharing.A v stated start os width domain sound named wide plain same =
+      record { some_width = omega arith; in_width = omega arith; word = λ e. refl; small = whole_constant v.constant stated sound.constant (sound.bare refl); uses = tt; fit = tt; party = tt }
+  valid ConstBits sharing.B v stated start os width domain sound named wide plain same =
+      record { some_width = wide.0; in_width = wide.1; word = λ e. cc; small = subst (λ n. v.constant < 2 ^ n) (same_some stated width sound.wide) sound.constant; uses = tt; fit = tt; party = tt }
+  valid Add sharing.A v stated start os width domain sound named wide plain same =
+      let u = words_used Add sharing.A v stated start os width sound sound.arity refl in
       record { some_width = omega arith; in_width = omega arith; word = λ e. refl; small = omega arith; uses = (u.0.0, (u.1.0, tt)); fit = (u.0.1, (u.1.1, tt)); party = tt }
-  valid Sub sharing.A v parts os width domain sound named wide plain same =
-      let u = words_used Sub sharing.A v parts os width sound sound.arity refl in
+  valid Sub sharing.A v stated start os width domain sound named wide plain same =
+      let u = words_used Sub sharing.A v stated start os width sound sound.arity refl in
       record { some_width = omega arith; in_width = omega arith; word = λ e. refl; small = omega arith; uses = (u.0.0, (u.1.0, tt)); fit = (u.0.1, (u.1.1, tt)); party = tt }
-  valid Mul sharing.A v parts os width domain sound named wide plain same =
-      let u = words_used Mul sharing.A v parts os width sound sound.arity refl in
+  valid Mul sharing.A v stated start os width domain sound named wide plain same =
+      let u = words_used Mul sharing.A v stated start os width sound sound.arity refl in
       record { some_width = omega arith; in_width = omega arith; word = λ e. refl; small = omega arith; uses = (u.0.0, (u.1.0, tt)); fit = (u.0.1, (u.1.1, tt)); party = tt }
-  valid AddConst sharing.A v parts os width domain sound named wide plain same =
-      let u = one_word AddConst sharing.A v parts os width sound sound.arity refl in
-      record { some_width = omega arith; in_width = omega arith; word = λ e. refl; small = whole_constant v.constant parts.width sound.constant (sound.bare refl); uses = (u.0, tt); fit = (u.1, tt); party = tt }
-  valid MulConst sharing.A v parts os width domain sound named wide plain same =
-      let u = one_word MulConst sharing.A v parts os width sound sound.arity refl in
-      record { some_width = omega arith; in_width = omega arith; word = λ e. refl; small = whole_constant v.constant parts.width sound.constant (sound.bare refl); uses = (u.0, tt); fit = (u.1, tt); party = tt }
-  valid Xor sharing.B v parts os width domain sound named wide plain same =
-      let u = vectors_used Xor sharing.B v parts os width sound sound.arity refl sound.wide in
+  valid AddConst sharing.A v stated start os width domain sound named wide plain same =
+      let u = one_word AddConst sharing.A v stated start os width sound sound.arity refl in
+      record { some_width = omega arith; in_width = omega arith; word = λ e. refl; small = whole_constant v.constant stated sound.constant (sound.bare refl); uses = (u.0, tt); fit = (u.1, tt); party = tt }
+  valid MulConst sharing.A v stated start os width domain sound named wide plain same =
+      let u = one_word MulConst sharing.A v stated start os width sound sound.arity refl in
+      record { some_width = omega arith; in_width = omega arith; word = λ e. refl; small = whole_constant v.constant stated sound.constant (sound.bare refl); uses = (u.0, tt); fit = (u.1, tt); party = tt }
+  valid Xor sharing.B v stated start os width domain sound named wide plain same =
+      let u = vectors_used Xor sharing.B v stated start os width sound sound.arity refl sound.wide in
       record { some_width = wide.0; in_width = wide.1; word = λ e. cc; small = pow_pos width; uses = (u.0.0, (u.1.0, tt)); fit = (u.0.1, (u.1.1, tt)); party = tt }
-  valid And sharing.B v parts os width domain sound named wide plain same =
-      let u = vectors_used And sharing.B v parts os width sound sound.arity refl sound.wide in
+  valid And sharing.B v stated start os width domain sound named wide plain same =
+      let u = vectors_used And sharing.B v stated start os width sound sound.arity refl sound.wide in
       record { some_width = wide.0; in_width = wide.1; word = λ e. cc; small = pow_pos width; uses = (u.0.0, (u.1.0, tt)); fit = (u.0.1, (u.1.1, tt)); party = tt }
-  valid Not sharing.B v parts os width domain sound named wide plain same =
-      let u = one_vector Not sharing.B v parts os width sound sound.arity refl sound.wide in
+  valid Not sharing.B v stated start os width domain sound named wide plain same =
+      let u = one_vector Not sharing.B v stated start os width sound sound.arity refl sound.wide in
       record { some_width = wide.0; in_width = wide.1; word = λ e. cc; small = subst (λ n. 2 ^ n - 1 < 2 ^ width) (sym same) (full width); uses = (u.0, tt); fit = (u.1, tt); party = tt }
-  valid Slice sharing.B v parts os width domain sound named wide plain same =
-      let u = cut_used Slice sharing.B v parts os width sound sound.arity refl sound.wide in
+  valid Slice sharing.B v stated start os width domain sound named wide plain same =
+      let u = cut_used Slice sharing.B v stated start os width sound sound.arity refl sound.wide in
       record { some_width = wide.0; in_width = wide.1; word = λ e. cc; small = pow_pos width; uses = (u.0, tt); fit = (u.1, tt); party = tt }
-  valid Join sharing.B v parts os width domain sound named wide plain same =
-      let u = join_used Join sharing.B v parts os width sound sound.arity refl sound.wide in
+  valid Join sharing.B v stated start os width domain sound named wide plain same =
+      let u = join_used Join sharing.B v stated start os width sound sound.arity refl sound.wide in
       record { some_width = wide.0; in_width = wide.1; word = λ e. cc; small = pow_pos width; uses = (u.0, (u.1, tt)); fit = u.2; party = tt }
-  valid A2Y given v parts os width domain sound named wide plain same = tt
-  valid A2B given v parts os width domain sound named wide plain same = tt
-  valid B2Y given v parts os width domain sound named wide plain same = tt
-  valid Y2B given v parts os width domain sound named wide plain same = tt
-  valid B2A given v parts os width domain sound named wide plain same = tt
-  valid Y2A given v parts os width domain sound named wide plain same = tt
-  valid Output given v parts os width domain sound named wide plain same = cc
-  valid InputWord sharing.B v parts os width domain sound named wide plain same = cc
-  valid InputWord sharing.Y v parts os width domain sound named wide plain same = cc
-  valid InputBits sharing.A v parts os width domain sound named wide plain same = cc
-  valid InputBits sharing.Y v parts os width domain sound named wide plain same = cc
-  valid ConstWord sharing.B v parts os width domain sound named wide plain same = cc
-  valid ConstWord sharing.Y v parts os width domain sound named wide plain same = cc
-  valid ConstBits sharing.A v parts os width domain sound named wide plain same = cc
-  valid ConstBits sharing.Y v parts os width domain sound named wide plain same = cc
-  valid Add sharing.B v parts os width domain sound named wide plain same = cc
-  valid Add sharing.Y v parts os width domain sound named wide plain same = cc
-  valid Sub sharing.B v parts os width domain sound named wide plain same = cc
-  valid Sub sharing.Y v parts os width domain sound named wide plain same = cc
-  valid Mul sharing.B v parts os width domain sound named wide plain same = cc
-  valid Mul sharing.Y v parts os width domain sound named wide plain same = cc
-  valid AddConst sharing.B v parts os width domain sound named wide plain same = cc
-  valid AddConst sharing.Y v parts os width domain sound named wide plain same = cc
-  valid MulConst sharing.B v parts os width domain sound named wide plain same = cc
-  valid MulConst sharing.Y v parts os width domain sound named wide plain same = cc
-  valid Xor sharing.A v parts os width domain sound named wide plain same = cc
-  valid Xor sharing.Y v parts os width domain sound named wide plain same = cc
-  valid And sharing.A v parts os width domain sound named wide plain same = cc
-  valid And sharing.Y v parts os width domain sound named wide plain same = cc
-  valid Not sharing.A v parts os width domain sound named wide plain same = cc
-  valid Not sharing.Y v parts os width domain sound named wide plain same = cc
-  valid Slice sharing.A v parts os width domain sound named wide plain same = cc
-  valid Slice sharing.Y v parts os width domain sound named wide plain same = cc
-  valid Join sharing.A v parts os width domain sound named wide plain same = cc
-  valid Join sharing.Y v parts os width domain sound named wide plain same = cc
+  valid A2Y given v stated start os width domain sound named wide plain same = tt
+  valid A2B given v stated start os width domain sound named wide plain same = tt
+  valid B2Y given v stated start os width domain sound named wide plain same = tt
+  valid Y2B given v stated start os width domain sound named wide plain same = tt
+  valid B2A given v stated start os width domain sound named wide plain same = tt
+  valid Y2A given v stated start os width domain sound named wide plain same = tt
+  valid Output given v stated start os width domain sound named wide plain same = cc
+  valid InputWord sharing.B v stated start os width domain sound named wide plain same = cc
+  valid InputWord sharing.Y v stated start os width domain sound named wide plain same = cc
+  valid InputBits sharing.A v stated start os width domain sound named wide plain same = cc
+  valid InputBits sharing.Y v stated start os width domain sound named wide plain same = cc
+  valid ConstWord sharing.B v stated start os width domain sound named wide plain same = cc
+  valid ConstWord sharing.Y v stated start os width domain sound named wide plain same = cc
+  valid ConstBits sharing.A v stated start os width domain sound named wide plain same = cc
+  valid ConstBits sharing.Y v stated start os width domain sound named wide plain same = cc
+  valid Add sharing.B v stated start os width domain sound named wide plain same = cc
+  valid Add sharing.Y v stated start os width domain sound named wide plain same = cc
+  valid Sub sharing.B v stated start os width domain sound named wide plain same = cc
+  valid Sub sharing.Y v stated start os width domain sound named wide plain same = cc
+  valid Mul sharing.B v stated start os width domain sound named wide plain same = cc
+  valid Mul sharing.Y v stated start os width domain sound named wide plain same = cc
+  valid AddConst sharing.B v stated start os width domain sound named wide plain same = cc
+  valid AddConst sharing.Y v stated start os width domain sound named wide plain same = cc
+  valid MulConst sharing.B v stated start os width domain sound named wide plain same = cc
+  valid MulConst sharing.Y v stated start os width domain sound named wide plain same = cc
+  valid Xor sharing.A v stated start os width domain sound named wide plain same = cc
+  valid Xor sharing.Y v stated start os width domain sound named wide plain same = cc
+  valid And sharing.A v stated start os width domain sound named wide plain same = cc
+  valid And sharing.Y v stated start os width domain sound named wide plain same = cc
+  valid Not sharing.A v stated start os width domain sound named wide plain same = cc
+  valid Not sharing.Y v stated start os width domain sound named wide plain same = cc
+  valid Slice sharing.A v stated start os width domain sound named wide plain same = cc
+  valid Slice sharing.Y v stated start os width domain sound named wide plain same = cc
+  valid Join sharing.A v stated start os width domain sound named wide plain same = cc
+  valid Join sharing.Y v stated start os width domain sound named wide plain same = cc
 
   told_gate : (v : Source) (x : ℕ) (w : WireType) → wire_at before x ≡ Some w → is_keys (Some w) ≡ false → IsWide w → v.x ≡ x →
       IfSome (party_told v.to) (λ party. party < parties) → v.is_word ≡ is_word (Some w) → IsValid (kind_made Output v) w
@@ -290,10 +290,10 @@ module _ (parties : ℕ) (before : List Statement) (gates : List Gate) (agree : 
   told_gate v x (wire.Y width) there plain wide same to word = cc
 
   -- the gate of an output is valid
-  pub valid_output : (given : Sharing) (v : Source) (parts : Parts) (os : List Operand) (width : ℕ) (w : WireType) →
-      Sound parties before Output given v parts os width → ((o : Operand) → slice_get os 0 ≡ Some o → w ≡ o.wire) →
+  pub valid_output : (given : Sharing) (v : Source) (stated start : ℕ) (os : List Operand) (width : ℕ) (w : WireType) →
+      Sound parties before Output given v stated start os width → ((o : Operand) → slice_get os 0 ≡ Some o → w ≡ o.wire) →
       IsWide w → is_keys (Some w) ≡ false → v.is_word ≡ is_word (Some w) → IsValid (kind_made Output v) w
-  valid_output given v parts os width w sound told wide plain word =
+  valid_output given v stated start os width w sound told wide plain word =
       let t = one_operand os sound.arity in
       let same = told t.x t.first in
       told_gate v t.x.at w (sound.found 0 t.x t.first ∙ ap Some (sym same)) plain wide (sound.x t.x t.first) sound.to word

@@ -8,7 +8,7 @@ ghost use Rattle.gate_plan.specs.Keeps.{KeepsEvaluation};
 
 use crate::error::PlanError;
 use crate::statement::{gate_of, inputs_taken, wire_handled};
-use mixed_circuit::{Form, Mixed};
+use mixed_language::{Form, Mixed};
 use mot_base::{MAX_GATES, NoMemory};
 use plan_gates::Plan;
 use share_types::WireType;

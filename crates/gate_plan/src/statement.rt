@@ -12,7 +12,7 @@ ghost use Rattle.plan_gates.specs.Gate.{OutA, OutB, kind_of, stated_width};
 ghost use Rattle.gate_plan.specs.Lowering.{handled_by, wire_handled, is_word, kind_made, source_by};
 
 use circuit_tables::Receiver;
-use mixed_circuit::{Form, Mixed};
+use mixed_language::{Form, Mixed};
 use mot_base::MAX_WIDTH;
 use plan_gates::GateKind;
 use share_types::{Bits, WireType};

@@ -12,14 +12,13 @@ use Rattle.circuit_tables.specs.Table.{Input}
 use Rattle.mixed_language.specs.declared.language.Operation.{Operation}
 use Rattle.mixed_language.specs.declared.language.Operation.TheVariants.{InputWord, InputBits, ConstWord, ConstBits, Add, Sub, Mul, AddConst, MulConst, Xor, And, Not, Slice, Join, A2Y, A2B, B2Y, Y2B, B2A, Y2A, Output}
 use Rattle.mixed_language.specs.declared.operand.Operand.{Operand}
+use Rattle.mixed_language.specs.Operands.{width_by}
 use Rattle.mixed_language.specs.Language.{domain_of, widths_of, is_in, gives, states, is_name_slot, is_owner_slot, is_width_slot}
 use Rattle.mixed_language.specs.Circuit.{Circuit, Statement}
 use Rattle.share_types.specs.Wires.{wire_type, width_of}
-use Rattle.mixed_circuit.specs.Line.{Parts, width_given}
-use Rattle.mixed_language.specs.Valid.{IsSaid, IsCircuit}
+use Rattle.mixed_language.specs.Valid.{IsCircuit}
 use Rattle.mixed_language.specs.Table.{inputs_of, input_entry, owner_of}
 use Rattle.mot_base.proofs.Lists.{same_some}
-use Rattle.mixed_circuit.proofs.SaysLemmas.{said-by}
 use Rattle.bristol_reader.specs.Circuit as bristol
 use Rattle.bristol_reader.specs.Circuit.{output_wires}
 use Rattle.bristol_reader.specs.Table as bristol_table
@@ -114,51 +113,42 @@ record IsInput (op : Operation) (given : Sharing) (width stated : ℕ) : Type 0 
   named : states is_name_slot op ≡ true
   wide : width_of (wire_type (gives op given) width) ≡ stated
 
-input_is : (op : Operation) (given : Sharing) (parts : Parts) (os : List Operand) (width stated : ℕ) →
+input_is : (op : Operation) (given : Sharing) (stated start : ℕ) (os : List Operand) (width : ℕ) →
     states is_owner_slot op ≡ true → is_in (domain_of op) given ≡ true →
-    width_given (widths_of op) parts os ≡ Some width →
-    parts.width ≡ stated → (states is_width_slot op ≡ false → stated ≡ 64) → IsInput op given width stated
-input_is InputWord sharing.A parts os width stated owner domain wide same bare =
+    width_by (widths_of op) stated start os ≡ Some width →
+    (states is_width_slot op ≡ false → stated ≡ 64) → IsInput op given width stated
+input_is InputWord sharing.A stated start os width owner domain wide bare =
     record { named = refl; wide = sym (bare refl) }
-input_is InputBits sharing.B parts os width stated owner domain wide same bare =
-    record { named = refl; wide = sym (same_some parts.width width wide) ∙ same }
-input_is InputBits sharing.Y parts os width stated owner domain wide same bare =
-    record { named = refl; wide = sym (same_some parts.width width wide) ∙ same }
-input_is InputWord sharing.B parts os width stated owner domain wide same bare = cc
-input_is InputWord sharing.Y parts os width stated owner domain wide same bare = cc
-input_is InputBits sharing.A parts os width stated owner domain wide same bare = cc
-input_is ConstWord given parts os width stated owner domain wide same bare = cc
-input_is ConstBits given parts os width stated owner domain wide same bare = cc
-input_is Add given parts os width stated owner domain wide same bare = cc
-input_is Sub given parts os width stated owner domain wide same bare = cc
-input_is Mul given parts os width stated owner domain wide same bare = cc
-input_is AddConst given parts os width stated owner domain wide same bare = cc
-input_is MulConst given parts os width stated owner domain wide same bare = cc
-input_is Xor given parts os width stated owner domain wide same bare = cc
-input_is And given parts os width stated owner domain wide same bare = cc
-input_is Not given parts os width stated owner domain wide same bare = cc
-input_is Slice given parts os width stated owner domain wide same bare = cc
-input_is Join given parts os width stated owner domain wide same bare = cc
-input_is A2Y given parts os width stated owner domain wide same bare = cc
-input_is A2B given parts os width stated owner domain wide same bare = cc
-input_is B2Y given parts os width stated owner domain wide same bare = cc
-input_is Y2B given parts os width stated owner domain wide same bare = cc
-input_is B2A given parts os width stated owner domain wide same bare = cc
-input_is Y2A given parts os width stated owner domain wide same bare = cc
-input_is Output given parts os width stated owner domain wide same bare = cc
+input_is InputBits sharing.B stated start os width owner domain wide bare =
+    record { named = refl; wide = sym (same_some stated width wide) }
+input_is InputBits sharing.Y stated start os width owner domain wide bare =
+    record { named = refl; wide = sym (same_some stated width wide) }
+input_is InputWord sharing.B stated start os width owner domain wide bare = cc
+input_is InputWord sharing.Y stated start os width owner domain wide bare = cc
+input_is InputBits sharing.A stated start os width owner domain wide bare = cc
+input_is ConstWord given stated start os width owner domain wide bare = cc
+input_is ConstBits given stated start os width owner domain wide bare = cc
+input_is Add given stated start os width owner domain wide bare = cc
+input_is Sub given stated start os width owner domain wide bare = cc
+input_is Mul given stated start os width owner domain wide bare = cc
+input_is AddConst given stated start os width owner domain wide bare = cc
+input_is MulConst given stated start os width owner domain wide bare = cc
+input_is Xor given stated start os width owner domain wide bare = cc
+input_is And given stated start os width owner domain wide bare = cc
+input_is Not given stated start os width owner domain wide bare = cc
+input_is Slice given stated start os width owner domain wide bare = cc
+input_is Join given stated start os width owner domain wide bare = cc
+input_is A2Y given stated start os width owner domain wide bare = cc
+input_is A2B given stated start os width owner domain wide bare = cc
+input_is B2Y given stated start os width owner domain wide bare = cc
+input_is Y2B given stated start os width owner domain wide bare = cc
+input_is B2A given stated start os width owner domain wide bare = cc
+input_is Y2A given stated start os width owner domain wide bare = cc
+input_is Output given stated start os width owner domain wide bare = cc
 
 some_there : (o : Option ℕ) → IsSome o → (party : ℕ) × (o ≡ Some party)
 some_there None some = cc
 some_there (Some party) some = (party, refl)
-
--- the line of an input states a party
-owner_there : (parties : ℕ) (before : List Statement) (s : Statement) → IsSaid parties before s →
-    states is_owner_slot s.shape.operation ≡ true → (party : ℕ) × (s.shape.party ≡ Some party)
-owner_there parties before s said owner =
-    let by = said-by (record { parties = parties; statements = before }) said.words s said.is in
-    let same = ap (λ (t : Statement). t.shape.operation) by.means.is in
-    let there = some_there by.parts.party (by.stated.whole.owner (ap (states is_owner_slot) (sym same) ∙ owner)) in
-    (there.0, ap (λ (t : Statement). t.shape.party) by.means.is ∙ there.1)
 
 -- the entry of a statement stands behind those of the statements before it
 entry_there : (ss : List Statement) (n : ℕ) (s : Statement) (x : Input) → slice_get ss n ≡ Some s →
@@ -184,12 +174,12 @@ module _ (c : Circuit) (circuit : IsCircuit c) (built : all_built c ≡ true) wh
       let row = row_at c circuit built n s there in
       let kind = gate_kind c circuit built n s there in
       let is = taking s.shape.operation (source_of c.parties all n s) kind.0 t kind.1 e in
-      let owner = owner_there c.parties (take n all) s (circuit.each n s there) is.owner in
+      let owner = some_there s.shape.party (row.numbers.owner is.owner) in
       let entry : Input = record { name = s.name; party = record { 0 = owner.0 }; width = s.shape.width } in
       let owned : owner_of s.shape ≡ Some owner.0 = ap (λ (b : Bool). cond b s.shape.party None) is.owner ∙ owner.1 in
       let input =
-      input_is s.shape.operation row.sharing row.parts row.operands row.width s.shape.width
-      is.owner row.domain row.wide row.same_width row.bare in
+      input_is s.shape.operation row.sharing s.shape.width s.shape.place row.operands row.width
+      is.owner row.domain row.wide row.numbers.no_width in
       let w : WireType = wire_type (gives s.shape.operation row.sharing) row.width in
       let own : s.wire ≡ Some w = row.wire ∙ ap (λ (b : Bool). cond b (Some w) None) input.named in
       let wide : width_handled (wire_handled all s) ≡ s.shape.width =
