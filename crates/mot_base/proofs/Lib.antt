@@ -1,3 +1,4 @@
 pub mod Shelves
 pub mod Storing
+pub mod Walks
 pub mod Writing

@@ -1,6 +1,9 @@
+pub mod CallLog
+pub mod Calls
 pub mod Faults
 pub mod Files
 pub mod Limits
+pub mod Links
 pub mod Memory
 pub mod Sink
 pub mod Tape
