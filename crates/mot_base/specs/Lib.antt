@@ -4,6 +4,7 @@ pub mod Faults
 pub mod Files
 pub mod Limits
 pub mod Links
+pub mod MemLinks
 pub mod Memory
 pub mod Sink
 pub mod Tape

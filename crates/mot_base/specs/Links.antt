@@ -1,6 +1,5 @@
 -- What links tell of the parties that they link, and what an event says of them.
 use Rattle.std.specs.Prelude.{ℕ, ◌<◌, ◌≤◌, ◌≡◌, ◌≢◌, Bool, true, false, List, [], ◌++◌, length, take, Option, Some, None}
-use Rattle.mot_base.specs.declared.Party.{Party}
 use Rattle.mot_base.specs.declared.links.Place.{Place}
 use Rattle.mot_base.specs.declared.links.LinkEvent.{LinkEvent}
 use Rattle.mot_base.specs.declared.links.LinkEvent.TheVariants.{Bytes, Closed, Failed, NoMemory}

@@ -15,6 +15,7 @@ mod host;
 mod limits;
 mod links;
 mod mem_files;
+mod mem_links;
 mod mem_sink;
 mod payload;
 mod piece;
@@ -31,6 +32,7 @@ pub use limits::{
 };
 pub use links::{LinkError, LinkEvent, Links, Place};
 pub use mem_files::MemFiles;
+pub use mem_links::MemLinks;
 pub use mem_sink::MemSink;
 pub use payload::Payload;
 pub use piece::{BytesLeft, Piece};

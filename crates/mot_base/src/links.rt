@@ -30,6 +30,17 @@ impl From<AllocError> for LinkError {
     }
 }
 
+impl From<crate::NoMemory> for LinkError {
+    ghost use Rattle.std.specs.Prelude.{◌≡◌};
+    ghost use Rattle.mot_base.specs.declared.links.LinkError.TheVariants.{NoMemory};
+
+    ghost from_gives = { λ _ error. error ≡ NoMemory };
+
+    fn from(_error: crate::NoMemory) -> LinkError {
+        LinkError::NoMemory
+    }
+}
+
 /// What comes next of some peer.
 #[derive(Clone, Copy, Debug, PartialEq, Eq)]
 pub enum LinkEvent {
