@@ -38,7 +38,8 @@ others q piece differs = let e : (piece.from.0 == q) ≡ false = grind (arith, c
 own : (q n : ℕ) (piece : Piece) → piece.from.0 ≡ q → bytes_from q piece ≡ take n piece.bytes ++ bytes_from q (rest_of n piece)
 own q n piece is = let e : (piece.from.0 == q) ≡ true = grind (arith, common_steps) in rw e (sym (take-append-drop n piece.bytes))
 
--- the piece at a place gives its first bytes, and none before it is given: those are the next of its party
+-- the piece at a place gives its first bytes, and none before it is given: those are the next of
+-- its party
 pub cut_off : (place : Option Place) (q n : ℕ) (pieces : List Piece) (at : ℕ) →
     at < length pieces → (get_or pieces at no_piece).from.0 ≡ q → is_peer place q ≡ true →
     ((k : ℕ) → k < at → is_given place (get_or pieces k no_piece) ≡ false) →

@@ -23,16 +23,16 @@ IsKept None after = Unit {0}
 IsKept (Some before) None = ⊥
 IsKept (Some before) (Some after) = (p : ℕ) → after p ≡ before p
 
--- where bytes are told, those of the party q were this piece and then what they are now, and those of all
--- others are the same
+-- where bytes are told, those of the party q were this piece and then what they are now, and those
+-- of all others are the same
 abbrev pub IsCutOff : Option ByParty → Option ByParty → ℕ → List ℕ → Type 0
 IsCutOff None after q piece = Unit {0}
 IsCutOff (Some before) None q piece = ⊥
 IsCutOff (Some before) (Some after) q piece =
     (before q ≡ piece ++ after q) × ((p : ℕ) → p ≢ q → after p ≡ before p)
 
--- where bytes are told, those of the party q are what they were and then this piece, and those of all
--- others are the same
+-- where bytes are told, those of the party q are what they were and then this piece, and those of
+-- all others are the same
 abbrev pub IsAppended : Option ByParty → Option ByParty → ℕ → List ℕ → Type 0
 IsAppended None after q piece = Unit {0}
 IsAppended (Some before) None q piece = ⊥
@@ -60,8 +60,8 @@ NamesPeer place (Failed q) = IsPeer place q.0
 NamesPeer place NoMemory = Unit {0}
 
 -- What an event says of the bytes that are left, where `buffer` is what the buffer holds behind it:
--- `Bytes` moved the next ones of a peer, at least one, to the buffer's front; `Closed` comes only where
--- none of the peer are left; and all other bytes stay.
+-- `Bytes` moved the next ones of a peer, at least one, to the buffer's front; `Closed` comes only
+-- where none of the peer are left; and all other bytes stay.
 abbrev pub Moves : Option ByParty → Option ByParty → List ℕ → LinkEvent → Type 0
 Moves before after buffer (Bytes q n) =
     (1 ≤ n) × (n ≤ length buffer) × IsCutOff before after q.0 (take n buffer)
@@ -69,8 +69,8 @@ Moves before after buffer (Closed q) = IsKept before after × IsUsedUp before q.
 Moves before after buffer (Failed q) = IsKept before after
 Moves before after buffer NoMemory = IsKept before after
 
--- What an event says of the peers that are told as closed: `Closed` adds the peer that it names, which
--- was not told before, and no other event adds one.
+-- What an event says of the peers that are told as closed: `Closed` adds the peer that it names,
+-- which was not told before, and no other event adds one.
 abbrev pub Closes : (ℕ → Bool) → (ℕ → Bool) → LinkEvent → Type 0
 Closes before after (Closed q) = (before q.0 ≡ false) × IsWith before after q.0
 Closes before after (Bytes q n) = IsSame before after

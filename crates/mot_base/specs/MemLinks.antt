@@ -1,4 +1,5 @@
--- Links in memory: what they give and to whom it was sent, which calls fail, and what a call leaves.
+-- Links in memory: what they give and to whom it was sent, which calls fail, and what a call
+-- leaves.
 use Rattle.std.specs.Prelude.{ℕ, ◌&&◌, ◌==◌, Bool, true, false, not, min, List, [], ◌++◌, length, drop, replicate, map, Option, Some, None, nat_lt, get_or, slice_set, position, if◌then◌else◌}
 use Rattle.std.specs.List.{flat_map, remove, position_or_len, range_with_len}
 use Rattle.mot_base.specs.Faults.{one_more}
@@ -11,9 +12,9 @@ use Rattle.mot_base.specs.declared.links.LinkEvent.{LinkEvent}
 use Rattle.mot_base.specs.declared.links.LinkEvent.TheVariants.{Bytes, Closed, Failed}
 use Rattle.mot_base.specs.declared.piece.Piece.{Piece}
 
--- links in memory: the pieces and the closings that are left, the numbers of the calls that are to fail,
--- the counts of calls and of faults, for whom they are connected, which parties were closed since then,
--- whether all is flushed, and what was sent to each party
+-- links in memory: the pieces and the closings that are left, the numbers of the calls that are to
+-- fail, the counts of calls and of faults, for whom they are connected, which parties were closed
+-- since then, whether all is flushed, and what was sent to each party
 pub record LinksInMemory : Type 0 where
   pub pieces : List Piece
   pub closing : List Party
@@ -93,7 +94,11 @@ link_call_fails links = is_listed links.fails links.calls
 -- the links after a `connect` that left them for this party of so many, or for nobody
 abbrev pub after_connect : LinksInMemory → Option Place → LinksInMemory
 after_connect links place =
-    record (after_link_call links) { place = place; closed = replicate most_parties false; flushed = false }
+    record (after_link_call links) {
+      place = place;
+      closed = replicate most_parties false;
+      flushed = false;
+    }
 
 -- the links after a `send` that appended the bytes for a party
 abbrev pub after_send : LinksInMemory → ℕ → List ℕ → LinksInMemory
@@ -142,9 +147,11 @@ end_taken links closing party =
       links = record links { closing = closing; closed = slice_set links.closed party.0 true };
     }
 
--- where no piece is given: the first closing of a peer that is open, or else the end of the least such peer
+-- where no piece is given: the first closing of a peer that is open, or else the end of the least
+-- such peer
 abbrev pub end_taken_at : LinksInMemory → Option ℕ → Taken
-end_taken_at links (Some at) = end_taken links (remove links.closing at) (get_or links.closing at no_party)
+end_taken_at links (Some at) =
+    end_taken links (remove links.closing at) (get_or links.closing at no_party)
 end_taken_at links None =
     end_taken links links.closing
     (get_or all_parties (position_or_len (is_open links.place links.closed) all_parties) no_party)

@@ -18,8 +18,8 @@ pub record FilesInMemory : Type 0 where
   pub faults : ℕ
   pub asked : List FileCall
 
--- a sink in memory: what was appended, for how many bytes there is room, how many bytes a write takes
--- at most, the numbers of the calls that are to fail, and the counts of calls and of faults
+-- a sink in memory: what was appended, for how many bytes there is room, how many bytes a write
+-- takes at most, the numbers of the calls that are to fail, and the counts of calls and of faults
 pub record SinkInMemory : Type 0 where
   pub appended : List ℕ
   pub room : ℕ
@@ -63,8 +63,8 @@ after_load files name =
 abbrev pub store_fails : FilesInMemory → List ℕ → Bool
 store_fails files content = is_listed files.fails files.calls && nat_le (length content) most_file_bytes
 
--- the names and the contents once a content stands under a name: in place of the first content of the
--- name, or behind all others
+-- the names and the contents once a content stands under a name: in place of the first content of
+-- the name, or behind all others
 abbrev pub names_with : List (List ℕ) → Option ℕ → List ℕ → List (List ℕ)
 names_with names (Some place) name = names
 names_with names None name = names ++ name ∷ []
@@ -84,7 +84,8 @@ with_content files name content =
 -- the files after a store that put the content under the name
 abbrev pub after_storing : FilesInMemory → List ℕ → List ℕ → FilesInMemory
 after_storing files name content =
-    after_call (with_content files name content) (record { action = Store; name = name; failed = false })
+    after_call (with_content files name content)
+    (record { action = Store; name = name; failed = false })
 
 -- the files after a store of the content under the name that was refused
 abbrev pub after_refusing : FilesInMemory → List ℕ → List ℕ → FilesInMemory

@@ -1,5 +1,5 @@
-//! The calls that files were asked for, as a history that only proofs read. It takes no memory, and its
-//! methods do nothing when the program runs.
+//! The calls that files were asked for, as a history that only proofs read. It takes no memory, and
+//! its methods do nothing when the program runs.
 ghost use Rattle.std.specs.Prelude.{◌≡◌, List, [], ◌∷◌, ◌++◌};
 ghost use base.Fml.{ftrue};
 ghost use Rattle.mot_base.specs.Calls.{FileCall};

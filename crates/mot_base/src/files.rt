@@ -64,8 +64,8 @@ pub(crate) fn has_failed<T>(answer: &Result<T, FileError>) -> bool
 
 /// Named files.
 ///
-/// An implementation may tell what each name holds. It keeps a count of its faults, from 0, and tells
-/// every call that it was asked for, in order.
+/// An implementation may tell what each name holds. It keeps a count of its faults, from 0, and
+/// tells every call that it was asked for, in order.
 pub trait Files {
     ghost holds: { Self → Option Holding };
 
@@ -84,8 +84,8 @@ pub trait Files {
         ensures never_falls { faults self.old ≤ faults self.new }
         ensures asked { asked self.new ≡ asked self.old ++ load_call name.now result ∷ [] };
 
-    /// Puts the bytes under the name, in place of what it held. After a refusal nothing is known of what
-    /// the name holds. No refusal is `Missing`.
+    /// Puts the bytes under the name, in place of what it held. After a refusal nothing is known of
+    /// what the name holds. No refusal is `Missing`.
     fn store(&mut self, alloc: Global, name: &str, bytes: &[u8]) -> Result<(), FileError>
         ensures stored { OnOk result (HoldsUnder (holds self.new) name.now bytes.now) }
         ensures others { OthersStay (holds self.old) (holds self.new) name.now }

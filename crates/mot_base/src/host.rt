@@ -32,7 +32,8 @@ impl<R: fs::Files + Drop> HostFiles<R> {
 
     /// Counts a call that failed, and keeps each call.
     fn note(&mut self, action: FileAction, name: &str, failed: bool)
-        ensures faults { self.new.faults ≡ (if failed then one_more self.old.faults else self.old.faults) }
+        ensures faults { self.new.faults
+            ≡ (if failed then one_more self.old.faults else self.old.faults) }
         ensures never_falls { self.old.faults ≤ self.new.faults }
         ensures log { self.new.log.calls ≡ self.old.log.calls
             ++ record { action = action; name = name.now; failed = failed } ∷ [] }

@@ -63,9 +63,9 @@ pub struct Place {
 
 /// The links of one party to all others.
 ///
-/// An implementation may tell which bytes of each party are left, and which were sent to each party. It
-/// tells which peers it answered as closed since the last `connect`, whether all that was sent is on its
-/// way, and for whom it is connected. It keeps a count of its faults, from 0.
+/// An implementation may tell which bytes of each party are left, and which were sent to each
+/// party. It tells which peers it answered as closed since the last `connect`, whether all that was
+/// sent is on its way, and for whom it is connected. It keeps a count of its faults, from 0.
 pub trait Links {
     ghost left: { Self → Option ByParty };
 
@@ -79,13 +79,14 @@ pub trait Links {
 
     ghost faults: { Self → ℕ };
 
-    /// Connects the party `me` to all others of so many parties, at the port and those behind it. No peer
-    /// is closed then. After a refusal there are no peers.
+    /// Connects the party `me` to all others of so many parties, at the port and those behind it.
+    /// No peer is closed then. After a refusal there are no peers.
     fn connect(&mut self, alloc: Global, me: Party, parties: u8, port: u16) -> Result<(), LinkError>
         requires least { least_parties ≤ parties }
         requires most { parties ≤ most_parties }
         requires me { me.0 < parties }
-        ensures placed { OnOk result (place self.new ≡ Some (record { me = me; parties = parties })) }
+        ensures placed { OnOk result (place self.new
+            ≡ Some (record { me = me; parties = parties })) }
         ensures refused { OnErr result (place self.new ≡ None) }
         ensures left { IsKept (left self.old) (left self.new) }
         ensures sent { IsKept (sent self.old) (sent self.new) }
@@ -112,7 +113,8 @@ pub trait Links {
     fn send(&mut self, alloc: Global, to: Party, from: &[u8]) -> Result<(), LinkError>
         requires peer { IsPeer (place self.old) to.0 }
         ensures all { OnOk result (IsAppended (sent self.old) (sent self.new) to.0 from.now) }
-        ensures some { OnErr result ((n : ℕ) × IsAppended (sent self.old) (sent self.new) to.0 (take n from.now)) }
+        ensures some { OnErr result ((n : ℕ)
+            × IsAppended (sent self.old) (sent self.new) to.0 (take n from.now)) }
         ensures left { IsKept (left self.old) (left self.new) }
         ensures closed { IsSame (closed self.old) (closed self.new) }
         ensures flushed { flushed self.new ≡ false }

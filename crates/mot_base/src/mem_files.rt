@@ -41,8 +41,8 @@ impl Model for MemFiles {
 }
 
 impl MemFiles {
-    /// Files of these names with these contents. `fails` lists the numbers, from 1, of the calls that
-    /// are to fail. Of two equal names the first counts.
+    /// Files of these names with these contents. `fails` lists the numbers, from 1, of the calls
+    /// that are to fail. Of two equal names the first counts.
     pub fn new(names: Vec<String>, contents: Vec<Vec<u8>>, fails: Vec<u64>) -> MemFiles
         requires { vec_len names ≡ vec_len contents }
         ensures names { result.names ≡ map string_bytes names.items }
@@ -67,11 +67,13 @@ impl MemFiles {
         ensures { (files : FilesInMemory) → ⟦<MemFiles as Files>⟧.holds files ≡ Some (held files) }
     {}
 
-    /// Its count of faults is the count of its calls that failed, and it tells the calls that it was asked
-    /// for.
+    /// Its count of faults is the count of its calls that failed, and it tells the calls that it
+    /// was asked for.
     pub fn counts_its_faults()
-        ensures faults { (files : FilesInMemory) → ⟦<MemFiles as Files>⟧.faults files ≡ files.faults }
-        ensures asked { (files : FilesInMemory) → ⟦<MemFiles as Files>⟧.asked files ≡ files.asked }
+        ensures faults { (files : FilesInMemory) →
+            ⟦<MemFiles as Files>⟧.faults files ≡ files.faults }
+        ensures asked { (files : FilesInMemory) →
+            ⟦<MemFiles as Files>⟧.asked files ≡ files.asked }
     {}
 
     /// What a name holds. It is no call that is counted.
@@ -85,7 +87,8 @@ impl MemFiles {
 
     /// Counts a call, and one that failed as such too, and keeps it.
     fn note(&mut self, action: FileAction, name: &str, failed: bool)
-        ensures after { self.new ≡ after_call self.old (record { action = action; name = name.now; failed = failed }) }
+        ensures after { self.new
+            ≡ after_call self.old (record { action = action; name = name.now; failed = failed }) }
         ensures never_falls { self.old.faults ≤ self.new.faults }
     {
         self.calls = self.calls.saturating_add(1);
@@ -113,14 +116,15 @@ impl MemFiles {
         }
     }
 
-    /// What the next call answers, where it is a store under the name: at `Ok` a copy of the bytes was put
-    /// there.
+    /// What the next call answers, where it is a store under the name: at `Ok` a copy of the bytes
+    /// was put there.
     fn put_copy(&mut self, alloc: Global, name: &str, bytes: &[u8]) -> Result<(), FileError>
         ensures length { IsErrOf result FileError.TooLong ↔ most_file_bytes < length bytes.now }
         ensures never_missing { ¬ IsErrOf result FileError.Missing }
         ensures failed { has_failed result ≡ store_fails self.old bytes.now }
         ensures stored { OnOk result (held self.new name.now ≡ Some bytes.now) }
-        ensures others { (other : List ℕ) → other ≢ name.now → held self.new other ≡ held self.old other }
+        ensures others { (other : List ℕ) → other ≢ name.now →
+            held self.new other ≡ held self.old other }
         ensures ok { OnOk result (self.new ≡ with_content self.old name.now bytes.now) }
         ensures err { OnErr result (self.new ≡ self.old) }
     {
@@ -135,7 +139,8 @@ impl MemFiles {
         Ok(())
     }
 
-    /// Puts the content under the name: in place of the first content of the name, or behind all others.
+    /// Puts the content under the name: in place of the first content of the name, or behind all
+    /// others.
     fn put(&mut self, alloc: Global, name: &str, content: Vec<u8>) -> Result<(), NoMemory>
         ensures ok { OnOk result (self.new ≡ with_content self.old name.now content.items) }
         ensures err { OnErr result (self.new ≡ self.old) }
@@ -193,7 +198,8 @@ impl Files for MemFiles {
 
     fn store(&mut self, alloc: Global, name: &str, bytes: &[u8]) -> Result<(), FileError>
         ensures stored { OnOk result (held self.new name.now ≡ Some bytes.now) }
-        ensures others { (other : List ℕ) → other ≢ name.now → held self.new other ≡ held self.old other }
+        ensures others { (other : List ℕ) → other ≢ name.now →
+            held self.new other ≡ held self.old other }
         ensures length { IsErrOf result FileError.TooLong ↔ most_file_bytes < length bytes.now }
         ensures cause { IsErrOf result FileError.Failed → Rose self.old.faults self.new.faults }
         ensures never_missing { ¬ IsErrOf result FileError.Missing }

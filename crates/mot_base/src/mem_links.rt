@@ -14,9 +14,10 @@ use std::marker::Model;
 
 /// Links in memory, whose calls fail where they are told to.
 ///
-/// They give the pieces of peers in the order of the list, each in as many parts as the buffer needs, and
-/// then close the peers of a list in its order. Once no other event is left, they close the least peer that
-/// is open. What is listed of a party that is no peer, or is closed, is passed over and stays.
+/// They give the pieces of peers in the order of the list, each in as many parts as the buffer
+/// needs, and then close the peers of a list in its order. Once no other event is left, they close
+/// the least peer that is open. What is listed of a party that is no peer, or is closed, is passed
+/// over and stays.
 #[derive(Drop)]
 pub struct MemLinks {
     pieces: Vec<Piece>,
@@ -50,12 +51,13 @@ impl Model for MemLinks {
     } };
 
     ghost invariant = { λ links. IfSome links.place (λ place.
-        (least_parties ≤ place.parties) × (place.parties ≤ most_parties) × (place.me.0 < place.parties)) };
+        (least_parties ≤ place.parties) × (place.parties ≤ most_parties)
+        × (place.me.0 < place.parties)) };
 }
 
 impl MemLinks {
-    /// Links of these pieces, each with bytes, and these closings. `fails` lists the numbers, from 1, of the
-    /// calls that are to fail.
+    /// Links of these pieces, each with bytes, and these closings. `fails` lists the numbers, from
+    /// 1, of the calls that are to fail.
     pub fn new(alloc: Global, pieces: Vec<Piece>, closing: Vec<Party>, fails: Vec<u64>) -> MemLinks
         ensures { result ≡ new_links pieces.items closing.items fails.items }
     {
@@ -81,20 +83,24 @@ impl MemLinks {
         }
     }
 
-    /// They tell their bytes: what is left is what the pieces have, by party, and of links that were just
-    /// made nothing was sent yet.
+    /// They tell their bytes: what is left is what the pieces have, by party, and of links that
+    /// were just made nothing was sent yet.
     pub fn tells_its_bytes()
         ensures left { (links : LinksInMemory) →
             ⟦<MemLinks as Links>⟧.left links ≡ Some (bytes_by_party links.pieces) }
         ensures sent { (links : LinksInMemory) →
             ⟦<MemLinks as Links>⟧.sent links ≡ Some (sent_by_party links.sent) }
-        ensures closed { (links : LinksInMemory) → ⟦<MemLinks as Links>⟧.closed links ≡ is_closed links.closed }
-        ensures flushed { (links : LinksInMemory) → ⟦<MemLinks as Links>⟧.flushed links ≡ links.flushed }
+        ensures closed { (links : LinksInMemory) →
+            ⟦<MemLinks as Links>⟧.closed links ≡ is_closed links.closed }
+        ensures flushed { (links : LinksInMemory) →
+            ⟦<MemLinks as Links>⟧.flushed links ≡ links.flushed }
         ensures place { (links : LinksInMemory) → ⟦<MemLinks as Links>⟧.place links ≡ links.place }
         ensures new_left { (pieces : List Piece) (closing : List Party) (fails : List ℕ) →
-            ⟦<MemLinks as Links>⟧.left (new_links pieces closing fails) ≡ Some (bytes_by_party pieces) }
+            ⟦<MemLinks as Links>⟧.left (new_links pieces closing fails)
+            ≡ Some (bytes_by_party pieces) }
         ensures new_sent { (pieces : List Piece) (closing : List Party) (fails : List ℕ) (q : ℕ) →
-            IfSome (⟦<MemLinks as Links>⟧.sent (new_links pieces closing fails)) (λ sent. sent q ≡ []) }
+            IfSome (⟦<MemLinks as Links>⟧.sent (new_links pieces closing fails))
+            (λ sent. sent q ≡ []) }
         ensures new_closed { (pieces : List Piece) (closing : List Party) (fails : List ℕ) (q : ℕ) →
             ⟦<MemLinks as Links>⟧.closed (new_links pieces closing fails) q ≡ false }
     {}
@@ -144,10 +150,15 @@ impl MemLinks {
     /// Gives the next bytes of the first piece that is given.
     fn give(&mut self, at: usize, into: &mut [u8]) -> LinkEvent
         requires { position (is_given self.old.place) self.old.pieces ≡ Some at }
-        ensures event { result ≡ (piece_taken self.old (length into.old) at (get_or self.old.pieces at no_piece)).event }
-        ensures links { self.new ≡ (piece_taken self.old (length into.old) at (get_or self.old.pieces at no_piece)).links }
-        ensures given { let count = min (length into.old) (length (get_or self.old.pieces at no_piece).bytes) in
-            take count into.new ≡ take count (get_or self.old.pieces at no_piece).bytes }
+        ensures event { result
+            ≡ (piece_taken self.old (length into.old) at
+            (get_or self.old.pieces at no_piece)).event }
+        ensures links { self.new
+            ≡ (piece_taken self.old (length into.old) at
+            (get_or self.old.pieces at no_piece)).links }
+        ensures given { let bytes = (get_or self.old.pieces at no_piece).bytes in
+            let count = min (length into.old) (length bytes) in
+            take count into.new ≡ take count bytes }
         ensures room { length into.new ≡ length into.old }
     {
         let piece = &mut self.pieces[at];
@@ -224,7 +235,8 @@ fn first_open(parties: &[Party], place: Option<Place>, closed: &[bool]) -> Optio
 fn least_open(place: Option<Place>, closed: &[bool]) -> Party
     requires open { IsOpen place (is_closed closed.now) }
     requires most { IfSome place (λ place. place.parties ≤ most_parties) }
-    ensures least { result ≡ get_or all_parties (position_or_len (is_open place closed.now) all_parties) no_party }
+    ensures least { result
+        ≡ get_or all_parties (position_or_len (is_open place closed.now) all_parties) no_party }
     ensures open { is_open place closed.now result ≡ true }
 {
     match first_open(ALL_PARTIES.as_slice(), place, closed) {
@@ -275,9 +287,11 @@ impl Links for MemLinks {
         requires least { least_parties ≤ parties }
         requires most { parties ≤ most_parties }
         requires me { me.0 < parties }
-        ensures placed { OnOk result (self.new.place ≡ Some (record { me = me; parties = parties })) }
+        ensures placed { OnOk result (self.new.place
+            ≡ Some (record { me = me; parties = parties })) }
         ensures refused { OnErr result (self.new.place ≡ None) }
-        ensures left { (q : ℕ) → bytes_by_party self.new.pieces q ≡ bytes_by_party self.old.pieces q }
+        ensures left { (q : ℕ) →
+            bytes_by_party self.new.pieces q ≡ bytes_by_party self.old.pieces q }
         ensures sent { (q : ℕ) → sent_by_party self.new.sent q ≡ sent_by_party self.old.sent q }
         ensures closed { (q : ℕ) → is_closed self.new.closed q ≡ false }
         ensures flushed { self.new.flushed ≡ false }
@@ -303,7 +317,8 @@ impl Links for MemLinks {
         requires room { 0 < length into.old }
         requires open { IsOpen self.old.place (is_closed self.old.closed) }
         ensures peer { NamesPeer self.old.place result }
-        ensures moves { Moves (Some (bytes_by_party self.old.pieces)) (Some (bytes_by_party self.new.pieces)) into.new result }
+        ensures moves { Moves (Some (bytes_by_party self.old.pieces))
+            (Some (bytes_by_party self.new.pieces)) into.new result }
         ensures room { length into.new ≡ length into.old }
         ensures sent { (q : ℕ) → sent_by_party self.new.sent q ≡ sent_by_party self.old.sent q }
         ensures closes { Closes (is_closed self.old.closed) (is_closed self.new.closed) result }
@@ -325,9 +340,12 @@ impl Links for MemLinks {
 
     fn send(&mut self, _alloc: Global, to: Party, from: &[u8]) -> Result<(), LinkError>
         requires peer { IsPeer self.old.place to.0 }
-        ensures all { OnOk result (IsAppended (Some (sent_by_party self.old.sent)) (Some (sent_by_party self.new.sent)) to.0 from.now) }
-        ensures some { OnErr result ((n : ℕ) × IsAppended (Some (sent_by_party self.old.sent)) (Some (sent_by_party self.new.sent)) to.0 (take n from.now)) }
-        ensures left { (q : ℕ) → bytes_by_party self.new.pieces q ≡ bytes_by_party self.old.pieces q }
+        ensures all { OnOk result (IsAppended (Some (sent_by_party self.old.sent))
+            (Some (sent_by_party self.new.sent)) to.0 from.now) }
+        ensures some { OnErr result ((n : ℕ) × IsAppended (Some (sent_by_party self.old.sent))
+            (Some (sent_by_party self.new.sent)) to.0 (take n from.now)) }
+        ensures left { (q : ℕ) →
+            bytes_by_party self.new.pieces q ≡ bytes_by_party self.old.pieces q }
         ensures closed { IsSame (is_closed self.old.closed) (is_closed self.new.closed) }
         ensures flushed { self.new.flushed ≡ false }
         ensures place { self.new.place ≡ self.old.place }
@@ -348,7 +366,8 @@ impl Links for MemLinks {
     fn finish(&mut self, _alloc: Global) -> Result<(), LinkError>
         ensures flushed { OnOk result (self.new.flushed ≡ true) }
         ensures unflushed { OnErr result (self.new.flushed ≡ self.old.flushed) }
-        ensures left { (q : ℕ) → bytes_by_party self.new.pieces q ≡ bytes_by_party self.old.pieces q }
+        ensures left { (q : ℕ) →
+            bytes_by_party self.new.pieces q ≡ bytes_by_party self.old.pieces q }
         ensures sent { (q : ℕ) → sent_by_party self.new.sent q ≡ sent_by_party self.old.sent q }
         ensures closed { IsSame (is_closed self.old.closed) (is_closed self.new.closed) }
         ensures place { self.new.place ≡ self.old.place }

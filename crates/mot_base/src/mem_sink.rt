@@ -35,8 +35,8 @@ impl Model for MemSink {
 }
 
 impl MemSink {
-    /// An empty sink. The memory for `room` bytes is taken here. `fails` lists the numbers, from 1, of
-    /// the calls that are to fail.
+    /// An empty sink. The memory for `room` bytes is taken here. `fails` lists the numbers, from 1,
+    /// of the calls that are to fail.
     pub fn new(alloc: Global, room: usize, fails: Vec<u64>) -> Result<MemSink, NoMemory>
         ensures { IfOk result (λ sink. sink ≡ empty_sink room None fails.items) }
     {
@@ -89,7 +89,8 @@ impl Sink for MemSink {
     ghost faults = { λ sink. sink.faults };
 
     fn write(&mut self, from: &[u8]) -> Result<usize, Failed>
-        ensures content { IfOk result (λ n. self.new.appended ≡ self.old.appended ++ take n from.now) }
+        ensures content { IfOk result (λ n.
+            self.new.appended ≡ self.old.appended ++ take n from.now) }
         ensures within { IfOk result (λ n. n ≤ length from.now) }
         ensures some { IfOk result (λ n. 0 < length from.now → 0 < n) }
         ensures nothing { OnErr result (self.new.appended ≡ self.old.appended) }

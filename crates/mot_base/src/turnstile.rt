@@ -1,5 +1,5 @@
-/// What a worker passes on its way through an item. It has no contract: a caller may hold a worker back
-/// there, to see what others do meanwhile.
+/// What a worker passes on its way through an item. It has no contract: a caller may hold a worker
+/// back there, to see what others do meanwhile.
 pub trait Turnstile {
     /// A worker calls this before it runs the item.
     fn enter(&self, item: u32);
