@@ -7,7 +7,7 @@ use Rattle.std.proofs.Math.Seq.{take-append_seam}
 use Rattle.mot_base.specs.Limits.{most_statements}
 use Rattle.mixed_language.specs.Circuit.{Circuit, Statement, with_statement}
 use Rattle.mixed_language.specs.Valid.{IsStatement, IsCircuit}
-use Rattle.mot_base.proofs.Lists.{pushed}
+use Rattle.mot_base.proofs.Lists.{pushed_at}
 
 abbrev pub fields : ℕ → List Statement → Circuit
 fields parties statements = record { parties = parties; statements = statements }
@@ -24,7 +24,7 @@ IsCircuit-push c s circuit few own = record {
   some_parties = circuit.some_parties;
   most_parties = circuit.most_parties;
   few = simp length-append (omega arith);
-  each = λ at t h. statement_more c s t at circuit own (pushed c.statements s t at h);
+  each = λ at t h. statement_more c s t at circuit own (pushed_at c.statements s t at h);
 }
 
 -- the same of a circuit's fields, where one statement was added at their end

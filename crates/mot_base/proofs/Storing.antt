@@ -3,14 +3,9 @@ use Rattle.std.proofs.Common.{◌≡◌, ◌≢◌, ℕ, suc, Bool, true, false,
 use Rattle.std.specs.Prelude.{slice_get, position}
 use Rattle.std.specs.Option.{option_and_then, option_map}
 use Rattle.std.specs.Str.{bytes_eq}
-use Rattle.std.proofs.lemmas.Grind.{common_steps}
 use Rattle.std.proofs.lemmas.Slice.Eq.{bytes_eq-Decides}
+use Rattle.mot_base.proofs.Lists.{position_cons}
 use Rattle.mot_base.specs.Memory.{names_with, contents_with}
-
--- the first place in a list with one more element in front
-first_place : {X : Type 0} (p : X → Bool) (x : X) (xs : List X) →
-    position p (x ∷ xs) ≡ cond (p x) (Some 0) (option_map (λ i. suc i) (position p xs))
-first_place p x xs = grind (arith, common_steps)
 
 -- what a name holds among names and contents that stand side by side
 abbrev found : List (List ℕ) → List (List ℕ) → List ℕ → Option (List ℕ)
@@ -24,7 +19,7 @@ shifted y ys None = refl
 found_more : (x y : List ℕ) (names contents : List (List ℕ)) (name : List ℕ) →
     found (x ∷ names) (y ∷ contents) name ≡ cond (bytes_eq name x) (Some y) (found names contents name)
 found_more x y names contents name =
-    let place = first_place (bytes_eq name) x names in
+    let place = position_cons (bytes_eq name) x names in
     let rest = shifted y contents (position (bytes_eq name) names) in
     rw place (elim (bytes_eq name x) as (λ b. option_and_then (slice_get (y ∷ contents)) (cond b (Some 0) (option_map (λ i. suc i) (position (bytes_eq name) names))) ≡ cond b (Some y) (found names contents name)) [ true ↦ refl | false ↦ rest ])
 
@@ -51,10 +46,10 @@ after_more : (x y : List ℕ) (names contents : List (List ℕ)) (name content o
     found (names_after (x ∷ names) name) (contents_after (x ∷ names) (y ∷ contents) name content) other
     ≡ cond same (found (x ∷ names) (content ∷ contents) other)
     (cond (bytes_eq other x) (Some y) (found (names_after names name) (contents_after names contents name content) other))
-after_more x y names contents name content other true e = rw (first_place (bytes_eq name) x names, e) refl
+after_more x y names contents name content other true e = rw (position_cons (bytes_eq name) x names, e) refl
 after_more x y names contents name content other false e =
     rw (
-      first_place (bytes_eq name) x names,
+      position_cons (bytes_eq name) x names,
       e,
       names_shifted x names name (position (bytes_eq name) names),
       contents_shifted y contents content (position (bytes_eq name) names),

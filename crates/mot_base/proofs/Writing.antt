@@ -1,7 +1,7 @@
 -- How far a writing of bytes has come.
 use Rattle.std.proofs.Common.{◌≡◌, ℕ, ◌+◌, ◌-◌, ◌≤◌, List, ◌++◌, length, take, drop, refl, append_assoc, length-drop, Option, Some, None, arith}
 use Rattle.std.proofs.Math.Seq.{take-add}
-use Rattle.std.proofs.lemmas.List.{take_all}
+use Rattle.mot_base.proofs.Lists.{range_to_end}
 use Rattle.mot_base.specs.Sink.{with_more}
 
 -- the first bytes were appended to what was there before
@@ -14,14 +14,10 @@ with_more-twice : (told : Option (List ℕ)) (xs ys : List ℕ) → with_more (w
 with_more-twice (Some done) xs ys = rw (append_assoc done xs ys) refl
 with_more-twice None xs ys = refl
 
--- the whole rest, as a range of the bytes
-pub take-rest : (w : ℕ) (xs : List ℕ) → take (length xs - w) (drop w xs) ≡ drop w xs
-take-rest w xs = take_all (length xs - w) (drop w xs) (omega (arith, length-drop w xs))
-
 -- some first bytes of the rest were appended
 pub written_more : (before now next : Option (List ℕ)) (xs : List ℕ) (w n : ℕ) → HasWritten before now xs w → n ≤ length (take (length xs - w) (drop w xs)) → next ≡ with_more now (take n (take (length xs - w) (drop w xs))) → HasWritten before next xs (w + n)
 written_more before now next xs w n first fits more =
-    let rest = take-rest w xs in
+    let rest = range_to_end w xs in
     let short : n ≤ length (drop w xs) = rw rest at fits in
     record {
       appended = rw (more, rest, first.appended, with_more-twice before (take w xs) (take n (drop w xs)), take-add w n xs) refl;

@@ -1,4 +1,5 @@
--- Counts of calls and of faults. They are kept in 64 bits, and stand still at their greatest number.
+-- Counts of calls and of faults. They are kept in 64 bits, and stand still at their greatest
+-- number.
 use Rattle.std.specs.Prelude.{ℕ, ◌+◌, ◌-◌, ◌^◌, ◌≤◌, min}
 
 -- the count after one more

@@ -1,6 +1,10 @@
+pub mod CallLog
+pub mod Calls
 pub mod Faults
 pub mod Files
 pub mod Limits
+pub mod Links
+pub mod MemLinks
 pub mod Memory
 pub mod Names
 pub mod Sink

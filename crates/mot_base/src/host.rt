@@ -1,6 +1,10 @@
-ghost use Rattle.std.specs.Prelude.{◌≡◌, ◌≤◌, None, vec_len, IfOk};
+ghost use Rattle.std.specs.Prelude.{◌≡◌, ◌<◌, ◌≤◌, ◌↔◌, ◌∷◌, ◌++◌, [], None, length, vec_len, IfOk, IsErrOf, if◌then◌else◌};
+ghost use Rattle.mot_base.specs.Faults.{one_more};
+ghost use Rattle.mot_base.specs.Limits.{most_file_bytes};
 
-use crate::{Failed, FileError, Files, MAX_FILE_LENGTH, Sink};
+use crate::call_log::{CallLog, CallMade};
+use crate::files::has_failed;
+use crate::{Failed, FileAction, FileError, Files, MAX_FILE_LENGTH, Sink};
 use std::alloc::Global;
 use std::io::{ErrorKind, Print, Read};
 use std::{fs, io};
@@ -10,13 +14,38 @@ use std::{fs, io};
 pub struct HostFiles<R> {
     rt: R,
     faults: u64,
+    log: CallLog,
 }
 
 impl<R: fs::Files + Drop> HostFiles<R> {
+    /// The files of the machine, of which nothing was asked yet.
     pub fn new(rt: R) -> HostFiles<R>
-        ensures { ⟦<HostFiles<R> as Files>⟧.faults result ≡ 0 }
+        ensures faults { ⟦<HostFiles<R> as Files>⟧.faults result ≡ 0 }
+        ensures asked { ⟦<HostFiles<R> as Files>⟧.asked result ≡ [] }
     {
-        HostFiles { rt, faults: 0 }
+        HostFiles {
+            rt,
+            faults: 0,
+            log: CallLog::new(),
+        }
+    }
+
+    /// Counts a call that failed, and keeps each call.
+    fn note(&mut self, action: FileAction, name: &str, failed: bool)
+        ensures faults { self.new.faults
+            ≡ (if failed then one_more self.old.faults else self.old.faults) }
+        ensures never_falls { self.old.faults ≤ self.new.faults }
+        ensures log { self.new.log.calls ≡ self.old.log.calls
+            ++ record { action = action; name = name.now; failed = failed } ∷ [] }
+    {
+        if failed {
+            self.faults = self.faults.saturating_add(1);
+        }
+        self.log = self.log.and(&CallMade {
+            action,
+            name,
+            failed,
+        });
     }
 }
 
@@ -25,36 +54,50 @@ impl<R: fs::Files + Drop> Files for HostFiles<R> {
 
     ghost faults = { λ files. files.faults };
 
+    ghost asked = { λ files. files.log.calls };
+
     fn load(&mut self, alloc: Global, name: &str) -> Result<Vec<u8>, FileError> {
-        let error = match read_start(&self.rt, alloc, name) {
-            Ok(bytes) if bytes.len() > MAX_FILE_LENGTH => return Err(FileError::TooLong),
-            Ok(bytes) => return Ok(bytes),
-            Err(error) => error,
-        };
-        match error.kind() {
-            ErrorKind::NotFound => Err(FileError::Missing),
-            ErrorKind::OutOfMemory => Err(FileError::NoMemory),
-            _ => {
-                self.faults = self.faults.saturating_add(1);
-                Err(FileError::Failed)
-            }
-        }
+        let answer = read(&self.rt, alloc, name);
+        self.note(FileAction::Load, name, has_failed(&answer));
+        answer
     }
 
     fn store(&mut self, _alloc: Global, name: &str, bytes: &[u8]) -> Result<(), FileError> {
-        if bytes.len() > MAX_FILE_LENGTH {
-            return Err(FileError::TooLong);
-        }
-        let Err(error) = fs::write(&self.rt, name, bytes) else {
-            return Ok(());
-        };
-        match error.kind() {
-            ErrorKind::OutOfMemory => Err(FileError::NoMemory),
-            _ => {
-                self.faults = self.faults.saturating_add(1);
-                Err(FileError::Failed)
-            }
-        }
+        let answer = write(&self.rt, name, bytes);
+        self.note(FileAction::Store, name, has_failed(&answer));
+        answer
+    }
+}
+
+/// What a load of a file answers.
+fn read<R: fs::Files>(rt: &R, alloc: Global, name: &str) -> Result<Vec<u8>, FileError>
+    ensures { IfOk result (λ bytes. vec_len bytes ≤ most_file_bytes) }
+{
+    match read_start(rt, alloc, name) {
+        Ok(bytes) if bytes.len() > MAX_FILE_LENGTH => Err(FileError::TooLong),
+        Ok(bytes) => Ok(bytes),
+        Err(error) => Err(match error.kind() {
+            ErrorKind::NotFound => FileError::Missing,
+            ErrorKind::OutOfMemory => FileError::NoMemory,
+            _ => FileError::Failed,
+        }),
+    }
+}
+
+/// What a store of a file answers.
+fn write<R: fs::Files>(rt: &R, name: &str, bytes: &[u8]) -> Result<(), FileError>
+    ensures length { IsErrOf result FileError.TooLong ↔ most_file_bytes < length bytes.now }
+    ensures never_missing { ¬ IsErrOf result FileError.Missing }
+{
+    if bytes.len() > MAX_FILE_LENGTH {
+        return Err(FileError::TooLong);
+    }
+    let Err(error) = fs::write(rt, name, bytes) else {
+        return Ok(());
+    };
+    match error.kind() {
+        ErrorKind::OutOfMemory => Err(FileError::NoMemory),
+        _ => Err(FileError::Failed),
     }
 }
 
@@ -76,6 +119,7 @@ pub struct HostSink<R> {
 }
 
 impl<R: Print + Drop> HostSink<R> {
+    /// The standard output of the machine.
     pub fn new(rt: R) -> HostSink<R>
         ensures { ⟦<HostSink<R> as Sink>⟧.faults result ≡ 0 }
     {

@@ -8,27 +8,37 @@ ghost use Rattle.mot_base.specs.declared.NoMemory.{NoMemory};
 use std::alloc::{AllocError, AllocFailed};
 use thiserror::Error;
 
+mod call_log;
+mod failing;
 mod files;
 mod host;
 mod limits;
+mod links;
 mod mem_files;
+mod mem_links;
 mod mem_sink;
 mod payload;
+mod piece;
 mod sink;
 mod tapes;
+mod turnstile;
 
-pub use files::{FileError, Files};
+pub use files::{FileAction, FileError, Files};
 pub use host::{HostFiles, HostSink};
 pub use limits::{
     DEALT_RECORDS, MAX_FILE_LENGTH, MAX_GATES, MAX_NAME_LENGTH, MAX_PARTIES, MAX_PAYLOAD_LENGTH,
     MAX_STATEMENTS, MAX_WIDTH, MAX_WIRES, MAX_WORKERS, MIN_PARTIES, PEER_BYTES, SESSION_COUNT,
     limits_are_defined,
 };
+pub use links::{LinkError, LinkEvent, Links, Place};
 pub use mem_files::MemFiles;
+pub use mem_links::MemLinks;
 pub use mem_sink::MemSink;
 pub use payload::Payload;
+pub use piece::{BytesLeft, Piece};
 pub use sink::{Sink, WriteFailed, write_all};
 pub use tapes::{TapeReader, derive, tape_share, tape_shares, tape_word};
+pub use turnstile::{OpenGate, Turnstile};
 
 /// The number of a party, from 0. A run has 2 to 8 parties, and each of its parties has a number
 /// below theirs.

@@ -5,7 +5,7 @@ use Rattle.std.proofs.lemmas.Option.{slice_get_within}
 use Rattle.std.proofs.lemmas.List.{length-append, take-append-le}
 use Rattle.std.proofs.Math.Seq.{take-append_seam}
 use Rattle.mot_base.specs.Limits.{least_parties, most_parties, most_gates}
-use Rattle.mot_base.proofs.Lists.{pushed}
+use Rattle.mot_base.proofs.Lists.{pushed_at}
 use Rattle.plan_gates.specs.Gate.{Gate}
 use Rattle.plan_gates.specs.Plan.{Gates, IsGate, IsPlan, no_gates, with_gate}
 
@@ -38,5 +38,5 @@ IsPlan-push plan gate valid few is = record {
   some_parties = valid.some_parties;
   most_parties = valid.most_parties;
   few = simp length-append (omega arith);
-  each = λ g there e. gate_more plan gate there g valid is (pushed plan.gates gate there g e);
+  each = λ g there e. gate_more plan gate there g valid is (pushed_at plan.gates gate there g e);
 }
