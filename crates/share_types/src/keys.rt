@@ -1,4 +1,5 @@
-ghost use Rattle.std.specs.Prelude.{◌≡◌};
+ghost use Rattle.std.specs.Prelude.{◌≡◌, ◌<◌, length, slice_set, bit_xor};
+ghost use Rattle.share_types.specs.Keys.{key_at};
 
 use crate::Bits;
 use std::marker::Model;
@@ -35,6 +36,15 @@ impl Keys {
         ensures { result.now ≡ self.entry.now }
     {
         self.keys.as_slice()
+    }
+
+    /// Adds a key to the one at a place, by XOR, where it lies.
+    pub fn xor_at(&mut self, place: usize, key: Key)
+        requires { place < length self.old }
+        ensures { self.new ≡ slice_set self.old place (record { 0 = bit_xor (key_at self.old place) key.0 }) }
+    {
+        let sum = self.keys[place].0 ^ key.0;
+        self.keys[place] = Key(sum);
     }
 }
 

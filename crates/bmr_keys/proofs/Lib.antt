@@ -1,0 +1,5 @@
+pub mod Labels
+pub mod Sums
+pub mod Masks
+pub mod KeyLists
+pub mod Parts

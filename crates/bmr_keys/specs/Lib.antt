@@ -1,0 +1,4 @@
+pub mod Hiding
+pub mod Laws
+pub mod Mask
+pub mod Wires
