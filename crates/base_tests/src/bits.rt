@@ -6,6 +6,17 @@ use mot_base::{Party, Seed};
 use share_types::{BitTriple, Bits};
 use std::test::Fail;
 
+fn is_vector(bits: Bits, word: u64, width: u8) -> bool {
+    bits.word == word && bits.width == width
+}
+
+fn are_bits(found: Option<Bits>, word: u64, width: u8) -> bool {
+    match found {
+        Some(bits) => is_vector(bits, word, width),
+        None => false,
+    }
+}
+
 // a number, a width, and whether there is such a vector
 static VECTORS: [(u64, u8, bool); 13] = [
     (0, 0, false),
@@ -23,22 +34,21 @@ static VECTORS: [(u64, u8, bool); 13] = [
     (0, 255, false),
 ];
 
-#[test]
-fn bits_have_one_to_sixty_four_places(rt: HostRuntime) {
-    for (word, width, is_found) in &VECTORS {
-        let seen = Bits::new(*word, *width).map(|bits| (bits.word, bits.width));
-        let wanted = if *is_found {
-            Some((*word, *width))
-        } else {
-            None
-        };
-        assert_eq!(rt; seen, wanted, "{word} of {width}");
+// the number of the first row that is otherwise
+fn wrong_vector(rows: &[(u64, u8, bool)]) -> Option<usize> {
+    for (at, (word, width, is_found)) in rows.iter().enumerate() {
+        let found = Bits::new(*word, *width);
+        if found.is_some() != *is_found || (*is_found && !are_bits(found, *word, *width)) {
+            return Some(at);
+        }
     }
+    None
 }
 
-/// The number and the width of a vector.
-fn seen(bits: Bits) -> (u64, u8) {
-    (bits.word, bits.width)
+#[test]
+fn bits_have_one_to_sixty_four_places(rt: HostRuntime) {
+    let wrong = wrong_vector(&VECTORS);
+    assert!(rt; wrong.is_none(), "vector {wrong:?}");
 }
 
 // a vector and its other values bit by bit
@@ -50,12 +60,23 @@ static OTHERS: [(u64, u8, u64); 5] = [
     (9223372036854775809, 64, 9223372036854775806),
 ];
 
+fn turned(word: u64, width: u8) -> Option<Bits> {
+    Some(Bits::new(word, width)?.not())
+}
+
+fn wrong_other(rows: &[(u64, u8, u64)]) -> Option<usize> {
+    for (at, (word, width, other)) in rows.iter().enumerate() {
+        if !are_bits(turned(*word, *width), *other, *width) {
+            return Some(at);
+        }
+    }
+    None
+}
+
 #[test]
 fn not_turns_each_bit_of_the_width(rt: HostRuntime) {
-    for (word, width, other) in &OTHERS {
-        let found = Bits::new(*word, *width).map(|bits| seen(bits.not()));
-        assert_eq!(rt; found, Some((*other, *width)), "{word} of {width}");
-    }
+    let wrong = wrong_other(&OTHERS);
+    assert!(rt; wrong.is_none(), "vector {wrong:?}");
 }
 
 // a vector, where a slice begins, its width, and its number
@@ -68,20 +89,28 @@ static SLICES: [(u64, u8, u8, u8, u64); 6] = [
     (9223372036854775809, 64, 0, 63, 1),
 ];
 
+fn slice(word: u64, width: u8, at: u8, count: u8) -> Option<Bits> {
+    let bits = Bits::new(word, width)?;
+    if count >= 1 && at <= 64 && count <= 64 && at + count <= bits.width {
+        Some(bits.slice(at, count))
+    } else {
+        None
+    }
+}
+
+fn wrong_slice(rows: &[(u64, u8, u8, u8, u64)]) -> Option<usize> {
+    for (row, (word, width, at, count, number)) in rows.iter().enumerate() {
+        if !are_bits(slice(*word, *width, *at, *count), *number, *count) {
+            return Some(row);
+        }
+    }
+    None
+}
+
 #[test]
 fn slices_reach_both_ends(rt: HostRuntime) {
-    for (word, width, at, count, number) in &SLICES {
-        assert!(rt; *count >= 1 && *at <= 64 && *count <= 64);
-        let Some(bits) = Bits::new(*word, *width) else {
-            panic!(rt; "no vector");
-        };
-        assert!(rt; *at + *count <= bits.width);
-        assert_eq!(rt;
-            seen(bits.slice(*at, *count)),
-            (*number, *count),
-            "{word} from {at} on"
-        );
-    }
+    let wrong = wrong_slice(&SLICES);
+    assert!(rt; wrong.is_none(), "slice {wrong:?}");
 }
 
 // a low part, a high part, and both joined
@@ -96,26 +125,31 @@ static JOINS: [((u64, u8), (u64, u8), (u64, u8)); 4] = [
     ((5, 63), (1, 1), (9223372036854775813, 64)),
 ];
 
-#[test]
-fn joins_have_the_first_vector_low(rt: HostRuntime) {
-    for (low, high, joined) in &JOINS {
-        let (Some(low), Some(high)) = (Bits::new(low.0, low.1), Bits::new(high.0, high.1)) else {
-            panic!(rt; "no vector");
-        };
-        assert!(rt; low.width <= 64 && high.width <= 64);
-        assert!(rt; low.width + high.width <= 64);
-        assert_eq!(rt; seen(low.join(high)), *joined);
+fn joined(low: Bits, high: Bits) -> Option<Bits> {
+    if low.width <= 64 && high.width <= 64 && low.width + high.width <= 64 {
+        Some(low.join(high))
+    } else {
+        None
     }
 }
 
+fn joined_parts(low: (u64, u8), high: (u64, u8)) -> Option<Bits> {
+    joined(Bits::new(low.0, low.1)?, Bits::new(high.0, high.1)?)
+}
+
+fn wrong_join(rows: &[((u64, u8), (u64, u8), (u64, u8))]) -> Option<usize> {
+    for (at, (low, high, both)) in rows.iter().enumerate() {
+        if !are_bits(joined_parts(*low, *high), both.0, both.1) {
+            return Some(at);
+        }
+    }
+    None
+}
+
 #[test]
-fn xor_and_and_go_bit_by_bit(rt: HostRuntime) {
-    let (Some(x), Some(y)) = (Bits::new(0b1100, 4), Bits::new(0b1010, 4)) else {
-        panic!(rt; "no vector");
-    };
-    assert!(rt; x.width == y.width);
-    assert_eq!(rt; seen(x.xor(y)), (0b0110, 4));
-    assert_eq!(rt; seen(x.and(y)), (0b1000, 4));
+fn joins_have_the_first_vector_low(rt: HostRuntime) {
+    let wrong = wrong_join(&JOINS);
+    assert!(rt; wrong.is_none(), "join {wrong:?}");
 }
 
 /// A vector of width 4.
@@ -127,46 +161,81 @@ fn four(word: u64) -> Bits
 }
 
 #[test]
-fn twelve_and_ten_is_eight(rt: HostRuntime) {
-    let first = BitTriple {
+fn xor_and_and_go_bit_by_bit(rt: HostRuntime) {
+    let (x, y) = (four(0b1100), four(0b1010));
+    assert!(rt; is_vector(x.xor(y), 0b0110, 4) && is_vector(x.and(y), 0b1000, 4));
+}
+
+fn first() -> BitTriple
+    ensures a { result.a.width ≡ 4 }
+    ensures b { result.b.width ≡ 4 }
+    ensures c { result.c.width ≡ 4 }
+{
+    BitTriple {
         a: four(0b0011),
         b: four(0b0001),
         c: four(0b1111),
-    };
-    let second = BitTriple {
+    }
+}
+
+fn second() -> BitTriple
+    ensures a { result.a.width ≡ 4 }
+    ensures b { result.b.width ≡ 4 }
+    ensures c { result.c.width ≡ 4 }
+{
+    BitTriple {
         a: four(0b0101),
         b: four(0b0010),
         c: four(0b1101),
-    };
-    let by_first = and_open(four(0b1010), four(0b0001), first);
-    let by_second = and_open(four(0b0110), four(0b1011), second);
-    let (d, e) = (xor(by_first.0, by_second.0), xor(by_first.1, by_second.1));
-    assert_eq!(rt; (seen(d), seen(e)), ((0b1010, 4), (0b1001, 4)));
-    let shares = (
-        and_close(Party(0), first, d, e),
-        and_close(Party(1), second, d, e),
-    );
-    assert_eq!(rt;
-        (seen(shares.0), seen(shares.1)),
-        ((0b0110, 4), (0b1110, 4))
-    );
-    assert_eq!(rt; seen(xor(shares.0, shares.1)), (0b1000, 4));
+    }
+}
+
+// the sum of what two parties open of twelve and of ten
+fn opened() -> (Bits, Bits)
+    ensures d { result.0.width ≡ 4 }
+    ensures e { result.1.width ≡ 4 }
+{
+    let by_first = and_open(four(0b1010), four(0b0001), first());
+    let by_second = and_open(four(0b0110), four(0b1011), second());
+    (xor(by_first.0, by_second.0), xor(by_first.1, by_second.1))
+}
+
+// the shares of the product, and their sum
+fn closed() -> (Bits, Bits, Bits) {
+    let (d, e) = opened();
+    let own = and_close(Party(0), first(), d, e);
+    let other = and_close(Party(1), second(), d, e);
+    (own, other, xor(own, other))
+}
+
+#[test]
+fn twelve_and_ten_is_eight(rt: HostRuntime) {
+    let (d, e) = opened();
+    assert!(rt; is_vector(d, 0b1010, 4) && is_vector(e, 0b1001, 4));
+    let (own, other, both) = closed();
+    let are_shares = is_vector(own, 0b0110, 4) && is_vector(other, 0b1110, 4);
+    assert!(rt; are_shares && is_vector(both, 0b1000, 4));
 }
 
 #[test]
 fn party_0_alone_adds_a_constant(rt: HostRuntime) {
     let (share, constant) = (four(0b1010), four(0b0110));
-    assert_eq!(rt; seen(xor_const(Party(0), share, constant)), (0b1100, 4));
-    assert_eq!(rt; seen(xor_const(Party(1), share, constant)), (0b1010, 4));
+    let own = xor_const(Party(0), share, constant);
+    let other = xor_const(Party(1), share, constant);
+    assert!(rt; is_vector(own, 0b1100, 4) && is_vector(other, 0b1010, 4));
+}
+
+fn are_shares(shares: &[Bits]) -> bool {
+    match shares {
+        // the share word is 4106339505150325519
+        [own, other] => is_vector(*own, 0b0011, 4) && is_vector(*other, 0b1111, 4),
+        _ => false,
+    }
 }
 
 #[test]
 fn a_vector_is_shared_by_low_bits_of_share_words(rt: HostRuntime) -> Result<(), Fail> {
     let shares = share_out(rt.alloc(), four(0b1100), &Seed([0; 32]), 0, 0, Party(0), 2)?;
-    let [own, other] = shares.as_slice() else {
-        panic!(rt; "a party has no share");
-    };
-    // the share word is 4106339505150325519
-    assert_eq!(rt; (seen(*own), seen(*other)), ((0b0011, 4), (0b1111, 4)));
+    assert!(rt; are_shares(&shares));
     Ok(())
 }

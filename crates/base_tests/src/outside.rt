@@ -1,18 +1,33 @@
 //! Files and a sink in memory, with faults.
+ghost use Rattle.std.specs.Prelude.{◌≡◌, IfOk, vec_len};
+
 use mot_base::{
-    FileError, Files, HostFiles, MAX_FILE_LENGTH, MemFiles, MemSink, Payload, WriteFailed,
-    write_all,
+    FileError, Files, HostFiles, MAX_FILE_LENGTH, MemFiles, MemSink, NoMemory, Payload,
+    WriteFailed, write_all,
 };
 use std::alloc::{AllocError, Global};
 use std::test::Fail;
 
+fn names(alloc: Global) -> Result<Vec<String>, AllocError>
+    ensures { IfOk result (λ names. vec_len names ≡ 2) }
+{
+    let circuit = String::from_str(alloc, "circuit")?;
+    let empty = String::from_str(alloc, "empty")?;
+    Ok(vec![in alloc; circuit, empty]?)
+}
+
+fn contents(alloc: Global) -> Result<Vec<Vec<u8>>, AllocError>
+    ensures { IfOk result (λ contents. vec_len contents ≡ 2) }
+{
+    let content = Vec::from_slice(alloc, b"mixed 1")?;
+    Ok(vec![in alloc; content, Vec::new(alloc)]?)
+}
+
+// a file of some content and an empty one, with the calls that fail
 fn shelf(alloc: Global, fails: &[u64]) -> Result<MemFiles, AllocError> {
-    let names = vec![in alloc;
-        String::from_str(alloc, "circuit")?,
-        String::from_str(alloc, "empty")?,
-    ]?;
-    let contents = vec![in alloc; Vec::from_slice(alloc, b"mixed 1")?, Vec::new(alloc)]?;
-    Ok(MemFiles::new(names, contents, Vec::from_slice(alloc, fails)?))
+    let fails = Vec::from_slice(alloc, fails)?;
+    let names = names(alloc)?;
+    Ok(MemFiles::new(names, contents(alloc)?, fails))
 }
 
 // the name of each load in turn, and its answer, where the third load fails
@@ -25,14 +40,33 @@ static LOADS: [(&str, Result<&[u8], FileError>); 6] = [
     ("circuit ", Err(FileError::Missing)),
 ];
 
+fn is_answer(loaded: &Result<Vec<u8>, FileError>, answer: &Result<&[u8], FileError>) -> bool {
+    match (loaded, answer) {
+        (Ok(bytes), Ok(content)) => bytes.as_slice() == *content,
+        (Err(error), Err(cause)) => *error == *cause,
+        _ => false,
+    }
+}
+
+// the number of the first load with another answer
+fn wrong_load(
+    alloc: Global,
+    files: &mut MemFiles,
+    rows: &[(&str, Result<&[u8], FileError>)],
+) -> Option<usize> {
+    for (at, (name, answer)) in rows.iter().enumerate() {
+        if !is_answer(&files.load(alloc, name), answer) {
+            return Some(at);
+        }
+    }
+    None
+}
+
 #[test]
 fn a_load_gives_what_the_name_holds(rt: HostRuntime) -> Result<(), Fail> {
     let mut files = shelf(rt.alloc(), &[3])?;
-    for (name, answer) in &LOADS {
-        let loaded = files.load(rt.alloc(), name);
-        let seen = loaded.as_ref().map(|bytes| bytes.as_slice());
-        assert_eq!(rt; seen.map_err(|error| *error), *answer, "{name}");
-    }
+    let wrong = wrong_load(rt.alloc(), &mut files, &LOADS);
+    assert!(rt; wrong.is_none(), "load {wrong:?}");
     Ok(())
 }
 
@@ -42,24 +76,43 @@ static HELD: [(&str, Option<&[u8]>); 3] = [
     ("missing", None),
 ];
 
+// the number of the first name that holds something else
+fn wrong_content(files: &MemFiles, rows: &[(&str, Option<&[u8]>)]) -> Option<usize> {
+    for (at, (name, content)) in rows.iter().enumerate() {
+        if files.get(name) != *content {
+            return Some(at);
+        }
+    }
+    None
+}
+
 #[test]
 fn get_sees_what_files_hold(rt: HostRuntime) -> Result<(), Fail> {
     let files = shelf(rt.alloc(), &[])?;
-    for (name, content) in &HELD {
-        assert_eq!(rt; files.get(name), *content, "{name}");
-    }
+    let wrong = wrong_content(&files, &HELD);
+    assert!(rt; wrong.is_none(), "name {wrong:?}");
     Ok(())
+}
+
+// a file of one byte more than a file may have, whose first load is to fail
+fn too_long(alloc: Global) -> Result<MemFiles, AllocError> {
+    let fails = Vec::from_slice(alloc, &[1])?;
+    let names = vec![in alloc; String::from_str(alloc, "long")?]?;
+    Ok(MemFiles::new(names, too_long_content(alloc)?, fails))
+}
+
+fn too_long_content(alloc: Global) -> Result<Vec<Vec<u8>>, AllocError>
+    ensures { IfOk result (λ contents. vec_len contents ≡ 1) }
+{
+    let content = vec![in alloc; 0u8; MAX_FILE_LENGTH + 1]?;
+    Ok(vec![in alloc; content]?)
 }
 
 #[test]
 fn too_long_comes_before_a_fault(rt: HostRuntime) -> Result<(), Fail> {
-    let alloc = rt.alloc();
-    let content = vec![in alloc; 0u8; MAX_FILE_LENGTH + 1]?;
-    let names = vec![in alloc; String::from_str(alloc, "long")?]?;
-    let contents = vec![in alloc; content]?;
-    let mut files = MemFiles::new(names, contents, Vec::from_slice(alloc, &[1])?);
-    let loaded = files.load(alloc, "long");
-    assert_eq!(rt; loaded.err(), Some(FileError::TooLong));
+    let mut files = too_long(rt.alloc())?;
+    let loaded = files.load(rt.alloc(), "long");
+    assert!(rt; is_answer(&loaded, &Err(FileError::TooLong)));
     Ok(())
 }
 
@@ -78,39 +131,62 @@ static STORED: [(&str, Option<&[u8]>); 4] = [
     ("missing", None),
 ];
 
+// the number of the first store with another answer
+fn wrong_store(
+    alloc: Global,
+    files: &mut MemFiles,
+    rows: &[(&str, &[u8], Result<(), FileError>)],
+) -> Option<usize> {
+    for (at, (name, content, answer)) in rows.iter().enumerate() {
+        if files.store(alloc, name, content) != *answer {
+            return Some(at);
+        }
+    }
+    None
+}
+
 #[test]
 fn a_store_puts_what_the_name_holds(rt: HostRuntime) -> Result<(), Fail> {
     let mut files = shelf(rt.alloc(), &[2])?;
-    for (name, content, answer) in &STORES {
-        assert_eq!(rt; files.store(rt.alloc(), name, content), *answer, "{name}");
-    }
-    for (name, content) in &STORED {
-        assert_eq!(rt; files.get(name), *content, "{name}");
-    }
+    let store = wrong_store(rt.alloc(), &mut files, &STORES);
+    let name = wrong_content(&files, &STORED);
+    assert!(rt;
+        store.is_none() && name.is_none(),
+        "store {store:?}, name {name:?}"
+    );
     Ok(())
+}
+
+fn is_given_back(alloc: Global, files: &mut impl Files) -> bool {
+    is_answer(&files.load(alloc, "stored"), &Err(FileError::Missing))
+        && files.store(alloc, "stored", b"shares").is_ok()
+        && is_answer(&files.load(alloc, "stored"), &Ok(b"shares"))
+        && files.store(alloc, "no folder/stored", b"shares") == Err(FileError::Failed)
 }
 
 #[test]
 fn the_machine_gives_back_what_was_stored(rt: HostRuntime) -> Result<(), Fail> {
-    let alloc = rt.alloc();
-    let mut files = HostFiles::new(&rt);
-    assert_eq!(rt; files.load(alloc, "stored").err(), Some(FileError::Missing));
-    assert_eq!(rt; files.store(alloc, "stored", b"shares"), Ok(()));
-    assert_eq!(rt;
-        files.load(alloc, "stored")?.as_slice(),
-        b"shares".as_slice()
-    );
-    let nowhere = files.store(alloc, "no folder/stored", b"shares");
-    assert_eq!(rt; nowhere, Err(FileError::Failed));
+    let is_well = is_given_back(rt.alloc(), &mut HostFiles::new(&rt));
     std::fs::remove_file(&rt, "stored")?;
+    assert!(rt; is_well);
     Ok(())
+}
+
+fn is_share(payload: &Payload) -> bool {
+    payload.bytes() == b"share".as_slice()
+}
+
+fn is_copied(alloc: Global, payload: &Payload) -> bool {
+    match payload.copy(alloc) {
+        Ok(copy) => is_share(&copy) && is_share(payload),
+        Err(_) => false,
+    }
 }
 
 #[test]
 fn a_payload_is_copied(rt: HostRuntime) -> Result<(), Fail> {
     let payload = Payload::new(Vec::from_slice(rt.alloc(), b"share")?);
-    assert_eq!(rt; payload.copy(rt.alloc())?.bytes(), payload.bytes());
-    assert_eq!(rt; payload.bytes(), b"share".as_slice());
+    assert!(&rt; is_copied(rt.alloc(), &payload));
     Ok(())
 }
 
@@ -160,15 +236,41 @@ static WRITINGS: [Writing; 5] = [
     },
 ];
 
-#[test]
-fn a_writing_stops_at_its_fault(rt: HostRuntime) -> Result<(), Fail> {
-    let alloc = rt.alloc();
-    for case in &WRITINGS {
-        let mut sink = MemSink::new(alloc, case.room, Vec::from_slice(alloc, case.fails)?)?;
-        assert_eq!(rt; write_all(&mut sink, b""), Ok(()));
-        assert_eq!(rt; write_all(&mut sink, b"share"), case.first);
-        assert_eq!(rt; write_all(&mut sink, b"triple"), case.second);
-        assert_eq!(rt; sink.bytes(), case.appended);
+fn holds(sink: &MemSink, bytes: &[u8]) -> bool {
+    sink.bytes() == bytes
+}
+
+fn is_written(sink: &mut MemSink, case: &Writing) -> bool {
+    write_all(sink, b"").is_ok()
+        && write_all(sink, b"share") == case.first
+        && write_all(sink, b"triple") == case.second
+        && holds(sink, case.appended)
+}
+
+fn sink(alloc: Global, case: &Writing) -> Result<MemSink, NoMemory> {
+    let fails = Vec::from_slice(alloc, case.fails)?;
+    MemSink::new(alloc, case.room, fails)
+}
+
+fn goes(alloc: Global, case: &Writing) -> bool {
+    match sink(alloc, case) {
+        Ok(mut sink) => is_written(&mut sink, case),
+        Err(_) => false,
     }
-    Ok(())
+}
+
+// the number of the first writing that goes another way
+fn wrong_writing(alloc: Global, rows: &[Writing]) -> Option<usize> {
+    for (at, case) in rows.iter().enumerate() {
+        if !goes(alloc, case) {
+            return Some(at);
+        }
+    }
+    None
+}
+
+#[test]
+fn a_writing_stops_at_its_fault(rt: HostRuntime) {
+    let wrong = wrong_writing(rt.alloc(), &WRITINGS);
+    assert!(rt; wrong.is_none(), "writing {wrong:?}");
 }

@@ -1,7 +1,6 @@
 //! The tape of the seed of 32 zero bytes.
 use hex::FromHex;
 use mot_base::{Party, Seed, TapeReader, derive, tape_share, tape_shares, tape_word};
-use std::test::Fail;
 
 const SEED: Seed = Seed([0; 32]);
 
@@ -51,20 +50,43 @@ static SHARES: [(u32, u32, u8, u64); 4] = [
     (65535, 4194303, 7, 7310755546676279155),
 ];
 
-#[test]
-fn seeds_are_derived_by_sha256(rt: HostRuntime) -> Result<(), Fail> {
-    for (label, text) in &DERIVED {
-        let seed = <[u8; 32] as FromHex>::from_hex(text)?;
-        assert_eq!(rt; derive(&SEED, *label), Seed(seed), "label {label}");
+fn is_derived(label: u8, text: &str) -> bool {
+    match <[u8; 32] as FromHex>::from_hex(text) {
+        Ok(seed) => derive(&SEED, label) == Seed(seed),
+        Err(_) => false,
     }
-    Ok(())
+}
+
+// the first label whose seed is another one
+fn wrong_label(rows: &[(u8, &str)]) -> Option<u8> {
+    for (label, text) in rows {
+        if !is_derived(*label, text) {
+            return Some(*label);
+        }
+    }
+    None
+}
+
+#[test]
+fn seeds_are_derived_by_sha256(rt: HostRuntime) {
+    let wrong = wrong_label(&DERIVED);
+    assert!(rt; wrong.is_none(), "label {wrong:?}");
+}
+
+// the first place at which another word stands
+fn wrong_place(rows: &[(u64, u32)]) -> Option<u64> {
+    for (place, word) in rows {
+        if tape_word(&SEED, *place) != *word {
+            return Some(*place);
+        }
+    }
+    None
 }
 
 #[test]
 fn words_are_those_of_chacha20(rt: HostRuntime) {
-    for (place, word) in &WORDS {
-        assert_eq!(rt; tape_word(&SEED, *place), *word, "place {place}");
-    }
+    let wrong = wrong_place(&WORDS);
+    assert!(rt; wrong.is_none(), "place {wrong:?}");
 }
 
 // the number of a zero key, whose four words stand at four times that place, and its 128 bits but the least
@@ -75,34 +97,63 @@ static KEYS: [(u64, u128); 4] = [
     (4294967295, 0x02654b14331df3faa5f7518ea14c5720),
 ];
 
+fn is_key(number: u64, key: u128) -> bool {
+    number < 4294967296 && TapeReader::new(&SEED, 4 * number).key() & !1 == key
+}
+
+fn wrong_key(rows: &[(u64, u128)]) -> Option<u64> {
+    for (number, key) in rows {
+        if !is_key(*number, *key) {
+            return Some(*number);
+        }
+    }
+    None
+}
+
 #[test]
 fn four_words_that_stand_together_make_a_key(rt: HostRuntime) {
-    for (number, key) in &KEYS {
-        assert!(rt; *number < 4294967296);
-        let found = TapeReader::new(&SEED, 4 * *number).key();
-        assert_eq!(rt; found & !1, *key, "number {number}");
-    }
+    let wrong = wrong_key(&KEYS);
+    assert!(rt; wrong.is_none(), "number {wrong:?}");
+}
+
+fn first_words() -> (u32, u32) {
+    let mut tape = TapeReader::new(&SEED, 0);
+    (tape.word(), tape.word())
+}
+
+// the share words of the first gate for parties 0 and 1
+fn first_shares() -> (u64, u64) {
+    let mut tape = TapeReader::new(&SEED, 281474976710656);
+    (tape.long_word(), tape.long_word())
 }
 
 #[test]
 fn a_reader_goes_on_behind_what_it_read(rt: HostRuntime) {
-    let mut tape = TapeReader::new(&SEED, 0);
-    assert_eq!(rt; (tape.word(), tape.word()), (2917185654, 2419978656));
-    let mut shares = TapeReader::new(&SEED, 281474976710656);
-    let first = shares.long_word();
-    assert_eq!(rt;
-        (first, shares.long_word()),
-        (tape_share(&SEED, 0, 0, Party(0)), 4106339505150325519)
-    );
+    assert!(rt; first_words() == (2917185654, 2419978656));
+    let shares = (tape_share(&SEED, 0, 0, Party(0)), 4106339505150325519);
+    assert!(rt; first_shares() == shares);
+}
+
+fn is_share(session: u32, gate: u32, to: u8, share: u64) -> bool {
+    session < 65536
+        && gate < 4194304
+        && to < 8
+        && tape_share(&SEED, session, gate, Party(to)) == share
+        && tape_shares(&SEED, session, gate)[usize::from(to)] == share
+}
+
+// the first row whose share is another one
+fn wrong_share(rows: &[(u32, u32, u8, u64)]) -> Option<u32> {
+    for (session, gate, to, share) in rows {
+        if !is_share(*session, *gate, *to, *share) {
+            return Some(*gate);
+        }
+    }
+    None
 }
 
 #[test]
 fn share_words_stand_at_their_places(rt: HostRuntime) {
-    for (session, gate, to, share) in &SHARES {
-        assert!(rt; *session < 65536 && *gate < 4194304 && *to < 8);
-        let found = tape_share(&SEED, *session, *gate, Party(*to));
-        assert_eq!(rt; found, *share, "session {session}, gate {gate}, to {to}");
-        let all = tape_shares(&SEED, *session, *gate);
-        assert_eq!(rt; all.get(usize::from(*to)), Some(share));
-    }
+    let wrong = wrong_share(&SHARES);
+    assert!(rt; wrong.is_none(), "gate {wrong:?}");
 }

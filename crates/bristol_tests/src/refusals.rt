@@ -3,23 +3,35 @@ ghost use Rattle.std.specs.Prelude.{◌≤◌, length};
 ghost use Rattle.mot_base.specs.Limits.{most_file_bytes};
 
 use bristol_reader::{BristolCause, BristolError, read_bristol};
-use mot_base::{MAX_FILE_LENGTH, NoMemory};
+use mot_base::MAX_FILE_LENGTH;
 use std::alloc::Global;
-use std::test::Fail;
 
-/// The number of gates of a text, or the first line that shows a cause, with that cause.
-fn outcome(alloc: Global, text: &[u8]) -> Result<(u32, Option<BristolCause>), NoMemory>
+/// Whether a text reads with so many gates, or else has this cause in that line first.
+fn is_read(alloc: Global, text: &[u8], number: u32, cause: Option<BristolCause>) -> bool
     requires { length text.now ≤ most_file_bytes }
 {
     match read_bristol(alloc, text) {
-        Ok(circuit) => Ok((circuit.len(), None)),
-        Err(BristolError::At { line, cause }) => Ok((line, Some(cause))),
-        Err(BristolError::NoMemory) => Err(NoMemory),
+        Ok(circuit) => cause.is_none() && circuit.len() == number,
+        Err(BristolError::At { line, cause: first }) => line == number && cause == Some(first),
+        Err(BristolError::NoMemory) => false,
     }
 }
 
-/// Texts, and the first line that shows a cause with that cause, or the number of gates of a text that reads.
-static TEXTS: [(&[u8], u32, Option<BristolCause>); 117] = [
+/// The number of the first text of which something else comes.
+fn wrong_text(alloc: Global, rows: &[(&[u8], u32, Option<BristolCause>)]) -> Option<usize> {
+    for (at, (text, number, cause)) in rows.iter().enumerate() {
+        if text.len() > MAX_FILE_LENGTH || !is_read(alloc, text, *number, *cause) {
+            return Some(at);
+        }
+    }
+    None
+}
+
+// In each table: a text, and the first line that shows a cause with that cause, or the number of
+// gates of a text that reads.
+
+/// A text that reads, and each cause.
+static CAUSES: [(&[u8], u32, Option<BristolCause>); 15] = [
     (b"1 3\n2 1 1\n1 1\n2 1 0 1 2 AND\n", 1, None),
     (b"1 3\n2 1 1\n1 1\n2 1 0 1 2 AND", 1, None),
     (
@@ -83,6 +95,16 @@ static TEXTS: [(&[u8], u32, Option<BristolCause>); 117] = [
         Some(BristolCause::SetTwice),
     ),
     (b"0 3\n2 1 1\n1 1\n", 3, Some(BristolCause::OutputUnset)),
+];
+
+#[test]
+fn a_text_reads_or_has_one_of_these_causes(rt: HostRuntime) {
+    let wrong = wrong_text(rt.alloc(), &CAUSES);
+    assert!(rt; wrong.is_none(), "text {wrong:?}");
+}
+
+/// Texts that end early or late, where the first line with a cause counts.
+static LINES: [(&[u8], u32, Option<BristolCause>); 24] = [
     (b"", 1, Some(BristolCause::Header)),
     (b"\n", 1, Some(BristolCause::Header)),
     (b"\n\n\n", 3, Some(BristolCause::Header)),
@@ -135,6 +157,16 @@ static TEXTS: [(&[u8], u32, Option<BristolCause>); 117] = [
     ),
     (b"0 2\n2 1 1\n1 1\nx\n", 4, Some(BristolCause::Leftover)),
     (b"0 3\n2 1 1\n1 1\nx\n", 4, Some(BristolCause::Leftover)),
+];
+
+#[test]
+fn the_first_line_with_a_cause_is_named(rt: HostRuntime) {
+    let wrong = wrong_text(rt.alloc(), &LINES);
+    assert!(rt; wrong.is_none(), "text {wrong:?}");
+}
+
+/// What the first three lines say, and how a line is written.
+static HEADS: [(&[u8], u32, Option<BristolCause>); 29] = [
     (b"0 0\n0\n0\n", 0, None),
     (b"0 2\n2 1 1\n1 1\n", 0, None),
     (b"0 2\n2 1 1\n2 1 1\n", 0, None),
@@ -244,6 +276,16 @@ static TEXTS: [(&[u8], u32, Option<BristolCause>); 117] = [
         4,
         Some(BristolCause::NotText),
     ),
+];
+
+#[test]
+fn the_first_three_lines_say_how_many_there_are(rt: HostRuntime) {
+    let wrong = wrong_text(rt.alloc(), &HEADS);
+    assert!(rt; wrong.is_none(), "text {wrong:?}");
+}
+
+/// Kinds of gates, and their names.
+static GATES: [(&[u8], u32, Option<BristolCause>); 25] = [
     (b"1 3\n2 1 1\n1 1\n2 1 0 1 2 XOR\n", 1, None),
     (b"1 3\n2 1 1\n1 1\n2 1 0 1 2 AND\n", 1, None),
     (b"1 3\n2 1 1\n1 1\n2 1 0 1 2 MAND\n", 1, None),
@@ -329,6 +371,16 @@ static TEXTS: [(&[u8], u32, Option<BristolCause>); 117] = [
         4,
         Some(BristolCause::GateName),
     ),
+];
+
+#[test]
+fn gates_have_these_names(rt: HostRuntime) {
+    let wrong = wrong_text(rt.alloc(), &GATES);
+    assert!(rt; wrong.is_none(), "text {wrong:?}");
+}
+
+/// How many wires a gate has, and which.
+static WIRES: [(&[u8], u32, Option<BristolCause>); 24] = [
     (
         b"1 3\n2 1 1\n1 1\n2 2 9 9 9 AND\n",
         4,
@@ -440,11 +492,7 @@ static TEXTS: [(&[u8], u32, Option<BristolCause>); 117] = [
 ];
 
 #[test]
-fn texts_read_or_have_these_first_faults(rt: HostRuntime) -> Result<(), Fail> {
-    for (text, number, cause) in &TEXTS {
-        assert!(rt; text.len() <= MAX_FILE_LENGTH);
-        let seen = outcome(rt.alloc(), text)?;
-        assert_eq!(rt; seen, (*number, *cause), "{text:?}");
-    }
-    Ok(())
+fn gates_have_wires_that_are_there_and_set(rt: HostRuntime) {
+    let wrong = wrong_text(rt.alloc(), &WIRES);
+    assert!(rt; wrong.is_none(), "text {wrong:?}");
 }

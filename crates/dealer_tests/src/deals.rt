@@ -1,12 +1,12 @@
 //! What the dealer draws, against files that another program made.
+ghost use Rattle.std.specs.Prelude.{◌≤◌};
+
 use dealer_files::{DealerPart, dealer_len, write_dealer};
 use dealer_maker::deal;
-use hex::FromHex;
 use mot_base::{Seed, derive};
 use sha2::{Digest, Sha256};
 use share_types::Needs;
 use std::alloc::Global;
-use std::test::Fail;
 
 // the dealer's label, under which its seed is derived
 const DEALER: u8 = 255;
@@ -17,33 +17,62 @@ static ONE_TRIPLE: [&str; 2] = [
     "4d4f54440102017aab31b445921b8a2732711a278f257d9eba5eac117b148f000000010000000000000000000000008b80c6bf81f65fb51f2d56ba401f8689376253001c56c67d",
 ];
 
-/// The file of a part.
-fn file_of(alloc: Global, part: &DealerPart) -> Result<Option<Vec<u8>>, Fail> {
-    if dealer_len(part.parties(), &part.counts()) > 67_108_864 {
-        return Ok(None);
+fn needs(mult: u32, bit: u32, key: u32) -> Needs {
+    Needs {
+        mult,
+        bit,
+        shared: 0,
+        key,
     }
-    Ok(Some(write_dealer(alloc, part)?))
+}
+
+/// The parts that are dealt under the seed of zeros.
+fn dealt(alloc: Global, parties: u8, counts: &Needs) -> Option<Vec<DealerPart>>
+    requires some { 2 ≤ parties }
+    requires most { parties ≤ 8 }
+{
+    deal(alloc, parties, &derive(&Seed([0; 32]), DEALER), counts).ok()
+}
+
+/// The file of a part.
+fn file_of(alloc: Global, part: &DealerPart) -> Option<Vec<u8>> {
+    if dealer_len(part.parties(), &part.counts()) > 67_108_864 {
+        return None;
+    }
+    write_dealer(alloc, part).ok()
+}
+
+/// Whether some bytes are those of a text in hexadecimal digits.
+fn are_bytes(alloc: Global, bytes: &[u8], text: &str) -> bool {
+    match hex::encode(alloc, bytes) {
+        Ok(seen) => seen.as_str() == text,
+        Err(_) => false,
+    }
+}
+
+fn has_file(alloc: Global, part: &DealerPart, text: &str) -> bool {
+    match file_of(alloc, part) {
+        Some(file) => are_bytes(alloc, &file, text),
+        None => false,
+    }
+}
+
+fn have_files(alloc: Global, parts: &[DealerPart], texts: &[&str]) -> bool {
+    for (part, text) in parts.iter().zip(texts) {
+        if !has_file(alloc, part, text) {
+            return false;
+        }
+    }
+    parts.len() == texts.len()
 }
 
 #[test]
-fn a_triple_for_two_is_dealt(rt: HostRuntime) -> Result<(), Fail> {
-    let seed = derive(&Seed([0; 32]), DEALER);
-    let counts = Needs {
-        mult: 1,
-        bit: 0,
-        shared: 0,
-        key: 0,
+fn a_triple_for_two_is_dealt(rt: HostRuntime) {
+    let is_dealt = match dealt(rt.alloc(), 2, &needs(1, 0, 0)) {
+        Some(parts) => have_files(rt.alloc(), &parts, &ONE_TRIPLE),
+        None => false,
     };
-    let parts = deal(rt.alloc(), 2, &seed, &counts)?;
-    assert_eq!(rt; parts.len(), 2);
-    for (part, text) in parts.iter().zip(&ONE_TRIPLE) {
-        let file = file_of(rt.alloc(), part)?;
-        assert_eq!(rt;
-            file.as_deref(),
-            Some(hex::decode(rt.alloc(), text)?.as_slice())
-        );
-    }
-    Ok(())
+    assert!(rt; is_dealt);
 }
 
 // SHA-256 of the three parties' files of 126 bit triples and 444 key bits
@@ -53,22 +82,27 @@ static BITS_AND_KEYS: [&str; 3] = [
     "f504e014f08139a09c8f8f281b1280ff9ab38b186100d95b8340d44782012647",
 ];
 
-#[test]
-fn bits_and_keys_for_three_are_dealt(rt: HostRuntime) -> Result<(), Fail> {
-    let seed = derive(&Seed([0; 32]), DEALER);
-    let counts = Needs {
-        mult: 0,
-        bit: 126,
-        shared: 0,
-        key: 444,
-    };
-    let parts = deal(rt.alloc(), 3, &seed, &counts)?;
-    assert_eq!(rt; parts.len(), 3);
-    for (part, text) in parts.iter().zip(&BITS_AND_KEYS) {
-        let file = file_of(rt.alloc(), part)?;
-        let digest = file.as_deref().map(|bytes| Sha256::digest(bytes));
-        let wanted = <[u8; 32] as FromHex>::from_hex(text)?;
-        assert_eq!(rt; digest, Some(wanted));
+fn has_digest(alloc: Global, part: &DealerPart, text: &str) -> bool {
+    match file_of(alloc, part) {
+        Some(file) => are_bytes(alloc, Sha256::digest(&file).as_slice(), text),
+        None => false,
     }
-    Ok(())
+}
+
+fn have_digests(alloc: Global, parts: &[DealerPart], texts: &[&str]) -> bool {
+    for (part, text) in parts.iter().zip(texts) {
+        if !has_digest(alloc, part, text) {
+            return false;
+        }
+    }
+    parts.len() == texts.len()
+}
+
+#[test]
+fn bits_and_keys_for_three_are_dealt(rt: HostRuntime) {
+    let are_dealt = match dealt(rt.alloc(), 3, &needs(0, 126, 444)) {
+        Some(parts) => have_digests(rt.alloc(), &parts, &BITS_AND_KEYS),
+        None => false,
+    };
+    assert!(rt; are_dealt);
 }

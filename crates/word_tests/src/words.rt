@@ -4,7 +4,6 @@ use cli_words::{
     read_local, read_needs, read_plain, read_words,
 };
 use std::alloc::{AllocError, Global};
-use std::test::Fail;
 
 // every command with every option
 static ALL: [Offer; 4] = [
@@ -42,8 +41,99 @@ const LONG: &str = "00112233445566778899aabbccddeeff00112233445566778899aabbccdd
 
 const NO_DIGIT: &str = "00112233445566778899aabbccddeeff00112233445566778899aabbccddeefg";
 
+/// The words of a line.
+fn words_of(alloc: Global, line: &[&str]) -> Result<Vec<String>, AllocError> {
+    let mut words = Vec::new(alloc);
+    for word in line {
+        words.push(String::from_str(alloc, word)?)?;
+    }
+    Ok(words)
+}
+
+/// The options of a Bristol text, where they are there.
+fn bristol(alloc: Global, words: Option<BristolWords>) -> Result<String, AllocError> {
+    let Some(words) = words else {
+        return String::from_str(alloc, "");
+    };
+    let sharing = match words.sharing {
+        Sharing::B => "B",
+        Sharing::Y => "Y",
+    };
+    format!(in alloc; " {sharing} {}", words.parties)
+}
+
+/// What is asked for, with the byte at place 7 for the seed.
+fn shown(alloc: Global, words: &CommandWords) -> Result<String, AllocError> {
+    match words {
+        CommandWords::Plain(w) => {
+            format!(in alloc;
+                "plain {} {}{}",
+                w.circuit,
+                w.values,
+                bristol(alloc, w.bristol)?
+            )
+        }
+        CommandWords::Needs(w) => {
+            format!(in alloc; "needs {}{}", w.circuit, bristol(alloc, w.bristol)?)
+        }
+        CommandWords::Deal(w) => {
+            format!(in alloc;
+                "deal {} {:x} {} {} {} {} {}",
+                w.prefix, w.seed.0[7], w.parties, w.mult, w.bit, w.shared, w.key
+            )
+        }
+        CommandWords::Local(w) => {
+            let dealer = match &w.dealer {
+                Some(dealer) => format!(in alloc; " from {dealer}")?,
+                None => String::from_str(alloc, "")?,
+            };
+            format!(in alloc;
+                "local {} {} {:x}{}{dealer}",
+                w.circuit,
+                w.values,
+                w.seed.0[7],
+                bristol(alloc, w.bristol)?
+            )
+        }
+    }
+}
+
+fn is_shown(alloc: Global, words: &CommandWords, wanted: &str) -> bool {
+    match shown(alloc, words) {
+        Ok(text) => text.as_str() == wanted,
+        Err(_) => false,
+    }
+}
+
+/// Whether a text tells what is asked for, or is `usage`.
+fn is_told(alloc: Global, asked: &Result<CommandWords, WordsError>, wanted: &str) -> bool {
+    match asked {
+        Ok(words) => is_shown(alloc, words, wanted),
+        Err(WordsError::Usage) => wanted == "usage",
+        Err(WordsError::NoMemory) => false,
+    }
+}
+
+/// Whether this is the reading of a line.
+fn is_read(alloc: Global, offers: &[Offer], line: &[&str], wanted: &str) -> bool {
+    match words_of(alloc, line) {
+        Ok(words) => is_told(alloc, &read_words(alloc, offers, words.as_slice()), wanted),
+        Err(_) => false,
+    }
+}
+
+/// The number of the first line with another reading.
+fn wrong_line(alloc: Global, offers: &[Offer], rows: &[(&[&str], &str)]) -> Option<usize> {
+    for (at, (line, wanted)) in rows.iter().enumerate() {
+        if !is_read(alloc, offers, line, wanted) {
+            return Some(at);
+        }
+    }
+    None
+}
+
 // a line and its reading, where every command is run
-static READ: [(&[&str], &str); 41] = [
+static READ: [(&[&str], &str); 23] = [
     (&["plain", "c", "v"], "plain c v"),
     (&["plain", "--", "c", "v"], "plain c v"),
     (&["plain", "c", "--", "v"], "plain c v"),
@@ -108,6 +198,16 @@ static READ: [(&[&str], &str); 41] = [
         ],
         "local c v 77 B 4 from d",
     ),
+];
+
+#[test]
+fn lines_are_read_by_the_whole_table(rt: HostRuntime) {
+    let wrong = wrong_line(rt.alloc(), &ALL, &READ);
+    assert!(rt; wrong.is_none(), "line {wrong:?}");
+}
+
+// the same of `deal`, and of words that are no seed
+static DEALS: [(&[&str], &str); 18] = [
     (
         &["deal", "d", LOWER, "2", "1", "0", "0", "0"],
         "deal d 77 2 1 0 0 0",
@@ -179,8 +279,81 @@ static READ: [(&[&str], &str); 41] = [
     (&["local", "c", "v", NO_DIGIT], "usage"),
 ];
 
+#[test]
+fn deals_are_read_by_the_whole_table(rt: HostRuntime) {
+    let wrong = wrong_line(rt.alloc(), &ALL, &DEALS);
+    assert!(rt; wrong.is_none(), "line {wrong:?}");
+}
+
+// a command and the words behind its name, with their reading
+static RESTS: [(Command, &[&str], &str); 8] = [
+    (
+        Command::Plain,
+        &["c", "--as=B", "v", "--parties", "2"],
+        "plain c v B 2",
+    ),
+    (Command::Plain, &["plain", "c", "v"], "usage"),
+    (Command::Needs, &["--", "-c"], "needs -c"),
+    (Command::Needs, &[], "usage"),
+    (
+        Command::Deal,
+        &["d", LOWER, "3", "1", "2", "3", "4"],
+        "deal d 77 3 1 2 3 4",
+    ),
+    (Command::Deal, &["d", LOWER, "3", "1", "2", "3"], "usage"),
+    (
+        Command::Local,
+        &["--dealer", "d", "c", "v", UPPER],
+        "local c v 77 from d",
+    ),
+    (Command::Local, &["c", "v"], "usage"),
+];
+
+/// What the call of a command reads of the words behind its name.
+fn asked_of(alloc: Global, command: Command, words: &[String]) -> Result<CommandWords, WordsError> {
+    match command {
+        Command::Plain => read_plain(alloc, &ALL, words).map(CommandWords::Plain),
+        Command::Needs => read_needs(alloc, &ALL, words).map(CommandWords::Needs),
+        Command::Deal => read_deal(alloc, &ALL, words).map(CommandWords::Deal),
+        Command::Local => read_local(alloc, &ALL, words).map(CommandWords::Local),
+    }
+}
+
+fn is_rest_read(alloc: Global, command: Command, rest: &[&str], wanted: &str) -> bool {
+    match words_of(alloc, rest) {
+        Ok(words) => is_told(alloc, &asked_of(alloc, command, words.as_slice()), wanted),
+        Err(_) => false,
+    }
+}
+
+/// The number of the first row with another reading.
+fn wrong_rest(alloc: Global, rows: &[(Command, &[&str], &str)]) -> Option<usize> {
+    for (at, (command, rest, wanted)) in rows.iter().enumerate() {
+        if !is_rest_read(alloc, *command, rest, wanted) {
+            return Some(at);
+        }
+    }
+    None
+}
+
+#[test]
+fn each_command_reads_the_words_behind_its_name(rt: HostRuntime) {
+    let wrong = wrong_rest(rt.alloc(), &RESTS);
+    assert!(rt; wrong.is_none(), "row {wrong:?}");
+}
+
+/// The number of the first line that is in the grammar.
+fn line_in_grammar(alloc: Global, lines: &[&[&str]]) -> Option<usize> {
+    for (at, line) in lines.iter().enumerate() {
+        if !is_read(alloc, &ALL, line, "usage") {
+            return Some(at);
+        }
+    }
+    None
+}
+
 // lines that are in the grammar of no command
-static REFUSED: [&[&str]; 44] = [
+static REFUSED: [&[&str]; 20] = [
     &[],
     &[""],
     &["-h"],
@@ -201,6 +374,16 @@ static REFUSED: [&[&str]; 44] = [
     &["plain", "-c", "v"],
     &["plain", "c", "v", "---"],
     &["plain", "c", "v", "--=B"],
+];
+
+#[test]
+fn lines_out_of_the_grammar_are_usage(rt: HostRuntime) {
+    let wrong = line_in_grammar(rt.alloc(), &REFUSED);
+    assert!(rt; wrong.is_none(), "line {wrong:?}");
+}
+
+// the same with options
+static REFUSED_OPTIONS: [&[&str]; 24] = [
     &["plain", "c", "v", "--as=B", "--as=B", "--parties", "2"],
     &[
         "plain",
@@ -236,6 +419,12 @@ static REFUSED: [&[&str]; 44] = [
     &["local", "c", "v", LOWER, "--dealer", "--", "d"],
 ];
 
+#[test]
+fn options_out_of_the_grammar_are_usage(rt: HostRuntime) {
+    let wrong = line_in_grammar(rt.alloc(), &REFUSED_OPTIONS);
+    assert!(rt; wrong.is_none(), "line {wrong:?}");
+}
+
 // a line and its reading, where `local` alone is run, with no option
 static READ_BY_FEW: [(&[&str], &str); 5] = [
     (&["local", "c", "v", LOWER], "local c v 77"),
@@ -248,149 +437,8 @@ static READ_BY_FEW: [(&[&str], &str); 5] = [
     (&["plain", "c", "v"], "usage"),
 ];
 
-/// The words of a line.
-fn words_of(alloc: Global, line: &[&str]) -> Result<Vec<String>, AllocError> {
-    let mut words = Vec::new(alloc);
-    for word in line {
-        words.push(String::from_str(alloc, word)?)?;
-    }
-    Ok(words)
-}
-
-/// The options of a Bristol text, where they are there.
-fn bristol(alloc: Global, words: Option<BristolWords>) -> Result<String, AllocError> {
-    let Some(words) = words else {
-        return String::from_str(alloc, "");
-    };
-    let sharing = match words.sharing {
-        Sharing::B => "B",
-        Sharing::Y => "Y",
-    };
-    format!(in alloc; " {sharing} {}", words.parties)
-}
-
-/// What is asked for, with the byte at place 7 for the seed.
-fn shown(alloc: Global, words: &CommandWords) -> Result<String, AllocError> {
-    match words {
-        CommandWords::Plain(w) => {
-            format!(in alloc;
-                "plain {} {}{}",
-                w.circuit,
-                w.values,
-                bristol(alloc, w.bristol)?
-            )
-        }
-        CommandWords::Needs(w) => {
-            format!(in alloc; "needs {}{}", w.circuit, bristol(alloc, w.bristol)?)
-        }
-        CommandWords::Deal(w) => {
-            format!(in alloc;
-                "deal {} {:x} {} {} {} {} {}",
-                w.prefix, w.seed.0[7], w.parties, w.mult, w.bit, w.shared, w.key
-            )
-        }
-        CommandWords::Local(w) => {
-            let dealer = match &w.dealer {
-                Some(dealer) => format!(in alloc; " from {dealer}")?,
-                None => String::from_str(alloc, "")?,
-            };
-            format!(in alloc;
-                "local {} {} {:x}{}{dealer}",
-                w.circuit,
-                w.values,
-                w.seed.0[7],
-                bristol(alloc, w.bristol)?
-            )
-        }
-    }
-}
-
-/// The reading of a line: what it asks for, or `usage`.
-fn reading(alloc: Global, offers: &[Offer], line: &[&str]) -> Result<String, AllocError> {
-    let words = words_of(alloc, line)?;
-    shown_reading(alloc, read_words(alloc, offers, words.as_slice()))
-}
-
-/// The reading of the words behind a command's name, by the call of that command.
-fn reading_of_rest(alloc: Global, command: Command, rest: &[&str]) -> Result<String, AllocError> {
-    let words = words_of(alloc, rest)?;
-    let words = words.as_slice();
-    let asked = match command {
-        Command::Plain => read_plain(alloc, &ALL, words).map(CommandWords::Plain),
-        Command::Needs => read_needs(alloc, &ALL, words).map(CommandWords::Needs),
-        Command::Deal => read_deal(alloc, &ALL, words).map(CommandWords::Deal),
-        Command::Local => read_local(alloc, &ALL, words).map(CommandWords::Local),
-    };
-    shown_reading(alloc, asked)
-}
-
-fn shown_reading(
-    alloc: Global,
-    asked: Result<CommandWords, WordsError>,
-) -> Result<String, AllocError> {
-    match asked {
-        Ok(asked) => shown(alloc, &asked),
-        Err(WordsError::Usage) => String::from_str(alloc, "usage"),
-        Err(WordsError::NoMemory) => String::from_str(alloc, "memory"),
-    }
-}
-
 #[test]
-fn lines_are_read_by_the_whole_table(rt: HostRuntime) -> Result<(), Fail> {
-    for (line, wanted) in &READ {
-        let seen = reading(rt.alloc(), &ALL, line)?;
-        assert_eq!(rt; seen.as_str(), *wanted, "{line:?}");
-    }
-    Ok(())
-}
-
-// a command and the words behind its name, with their reading
-static RESTS: [(Command, &[&str], &str); 8] = [
-    (
-        Command::Plain,
-        &["c", "--as=B", "v", "--parties", "2"],
-        "plain c v B 2",
-    ),
-    (Command::Plain, &["plain", "c", "v"], "usage"),
-    (Command::Needs, &["--", "-c"], "needs -c"),
-    (Command::Needs, &[], "usage"),
-    (
-        Command::Deal,
-        &["d", LOWER, "3", "1", "2", "3", "4"],
-        "deal d 77 3 1 2 3 4",
-    ),
-    (Command::Deal, &["d", LOWER, "3", "1", "2", "3"], "usage"),
-    (
-        Command::Local,
-        &["--dealer", "d", "c", "v", UPPER],
-        "local c v 77 from d",
-    ),
-    (Command::Local, &["c", "v"], "usage"),
-];
-
-#[test]
-fn each_command_reads_the_words_behind_its_name(rt: HostRuntime) -> Result<(), Fail> {
-    for (command, rest, wanted) in &RESTS {
-        let seen = reading_of_rest(rt.alloc(), *command, rest)?;
-        assert_eq!(rt; seen.as_str(), *wanted, "{rest:?}");
-    }
-    Ok(())
-}
-
-#[test]
-fn lines_out_of_the_grammar_are_usage(rt: HostRuntime) -> Result<(), Fail> {
-    for line in &REFUSED {
-        let seen = reading(rt.alloc(), &ALL, line)?;
-        assert_eq!(rt; seen.as_str(), "usage", "{line:?}");
-    }
-    Ok(())
-}
-
-#[test]
-fn what_is_not_run_is_out_of_the_grammar(rt: HostRuntime) -> Result<(), Fail> {
-    for (line, wanted) in &READ_BY_FEW {
-        let seen = reading(rt.alloc(), &LOCAL, line)?;
-        assert_eq!(rt; seen.as_str(), *wanted, "{line:?}");
-    }
-    Ok(())
+fn what_is_not_run_is_out_of_the_grammar(rt: HostRuntime) {
+    let wrong = wrong_line(rt.alloc(), &LOCAL, &READ_BY_FEW);
+    assert!(rt; wrong.is_none(), "line {wrong:?}");
 }
