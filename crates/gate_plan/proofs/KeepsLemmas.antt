@@ -29,7 +29,7 @@ use Rattle.plan_gates.specs.Gate as plan
 use Rattle.plan_gates.specs.Gate.{Kind, Gate, width_at}
 use Rattle.plan_gates.specs.Plain.{number_of, seen_of, gate_number, number_at, plain_before, GateTold, told_entry, plain_numbers}
 use Rattle.gate_plan.specs.Lowering.{Source, kind_made, source_of, operand_gate, handled_by, all_built, gates_before, lowered_before, lowered, wire_handled, width_handled}
-use Rattle.gate_plan.specs.Keeps as keeps
+use Rattle.plan_gates.specs.Plain as plain
 use Rattle.gate_plan.specs.Keeps.{unnamed, KeepsValues, KeepsEvaluation}
 use Rattle.plan_gates.proofs.NeedsLemmas.{last, kept}
 use Rattle.gate_plan.proofs.GatesLemmas.{Named, Names, Tells, named, numbers, gate_at, gate_kind, next_gate, count, some_at, flat_some, handled_own}
@@ -179,13 +179,13 @@ take_all [] = refl
 take_all (x ∷ xs) = ap (λ ys. x ∷ ys) (take_all xs)
 
 told_more : (gs : List Gate) (ns : List ℕ) (g : Gate) (k : ℕ) → length gs ≡ length ns →
-    keeps.told_by (gs ++ g ∷ []) (ns ++ k ∷ []) ≡ keeps.told_by gs ns ++ told_entry g.width k (plan.receiver_of g.kind)
+    plain.told_by (gs ++ g ∷ []) (ns ++ k ∷ []) ≡ plain.told_by gs ns ++ told_entry g.width k (plan.receiver_of g.kind)
 told_more [] [] g k h = append-nil (told_entry g.width k (plan.receiver_of g.kind))
 told_more [] (n ∷ ns) g k h = absurd (omega (arith, h))
 told_more (x ∷ gs) [] g k h = absurd (omega (arith, h))
 told_more (x ∷ gs) (n ∷ ns) g k h =
     ap (λ rest. told_entry x.width n (plan.receiver_of x.kind) ++ rest) (told_more gs ns g k (omega (arith, h)))
-    ∙ sym (append_assoc (told_entry x.width n (plan.receiver_of x.kind)) (keeps.told_by gs ns) (told_entry g.width k (plan.receiver_of g.kind)))
+    ∙ sym (append_assoc (told_entry x.width n (plan.receiver_of x.kind)) (plain.told_by gs ns) (told_entry g.width k (plan.receiver_of g.kind)))
 
 among_more : (all : List Statement) (values : List ℕ) (ss : List Statement) (s : Statement) →
     told_among all values (ss ++ s ∷ []) ≡ told_among all values ss ++ told_by all values s
@@ -415,7 +415,7 @@ module _ (c : Circuit) (circuit : IsCircuit c) (built : all_built c ≡ true) wh
         value_here m s there = gate_value m s there
 
     told_at_end : (m : ℕ) → m ≤ length all →
-        keeps.told_by (lowered_before c.parties all m) (take m values) ≡ map unnamed (told_among all values (take m all))
+        plain.told_by (lowered_before c.parties all m) (take m values) ≡ map unnamed (told_among all values (take m all))
     told_at_end zero h = refl
     told_at_end (suc m) h =
         let here = some_at c circuit built all m (omega (arith, h)) in
@@ -427,7 +427,7 @@ module _ (c : Circuit) (circuit : IsCircuit c) (built : all_built c ≡ true) wh
         let short : length (take m values) ≡ m = length_take values m (omega (arith, h, total)) in
         let first = take_next values m value.0 value.1 in
         let second = take_next all m here.0 here.1 in
-        ap₂ (λ gs ns. keeps.told_by gs ns) (next_gate c circuit built m here.0 here.1) (ap (λ k. take k values) (sym later) ∙ first)
+        ap₂ (λ gs ns. plain.told_by gs ns) (next_gate c circuit built m here.0 here.1) (ap (λ k. take k values) (sym later) ∙ first)
         ∙ (told_more (lowered_before c.parties all m) (take m values) (gate_at c circuit built m here.0 here.1) value.0 (many ∙ sym short)
         ∙ (ap₂ (λ a b. a ++ b) before (gate_told m here.0 here.1 value.0 value.1)
         ∙ (sym (map-append unnamed (told_among all values (take m all)) (told_by all values here.0))
@@ -450,9 +450,9 @@ module _ (c : Circuit) (circuit : IsCircuit c) (built : all_built c ≡ true) wh
             let total = evaluated.count in
             ap₂ (λ xs k. slice_get xs k) whole (numbers c circuit built at (omega arith)) ∙ e
 
-        told : keeps.told_by (lowered c).gates (plain_numbers (lowered c) inputs) ≡ map unnamed (told_of c values)
+        told : plain.told_by (lowered c).gates (plain_numbers (lowered c) inputs) ≡ map unnamed (told_of c values)
         told =
-            ap (keeps.told_by gates) (whole ∙ sym (ap (λ k. take k values) (sym evaluated.count) ∙ take_all values))
+            ap (plain.told_by gates) (whole ∙ sym (ap (λ k. take k values) (sym evaluated.count) ∙ take_all values))
             ∙ (told_at_end (length all) (omega arith) ∙ ap (λ ss. map unnamed (told_among all values ss)) (take_all all))
 
   pub keeps_evaluation : KeepsEvaluation c (lowered c)
