@@ -17,3 +17,4 @@ pub mod WriteLemmas
 pub mod DecimalLemmas
 pub mod ReadCircuitLemmas
 pub mod ReadsBackLemmas
+pub mod ExistsLemmas

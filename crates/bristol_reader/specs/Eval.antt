@@ -5,7 +5,7 @@ use Rattle.circuit_tables.specs.Table.{Told, AreCut}
 use Rattle.bristol_reader.specs.Kinds.{is_constant, output_bit}
 use Rattle.bristol_reader.specs.Circuit.{Gate, Circuit}
 use Rattle.bristol_reader.specs.Built.{IsCircuit}
-use Rattle.bristol_reader.specs.Table.{outputs_of}
+use Rattle.bristol_reader.specs.Table.{HaveInputWidths, outputs_of}
 
 -- the bit of a wire
 abbrev pub bit_at : List Bool → ℕ → Bool
@@ -39,3 +39,9 @@ pub record IsPlain (c : Circuit) (inputs : List (List Bool)) (outputs : List Tol
 -- the bits of the outputs are the same whatever the bits of the wires that no gate sets
 abbrev pub EvaluatesOnce : Type 0
 EvaluatesOnce = (c : Circuit) (inputs : List (List Bool)) (bits others : List Bool) → IsCircuit c → AreWireBits c inputs bits → AreWireBits c inputs others → output_bits c bits ≡ output_bits c others
+
+-- each circuit has a plain evaluation on values of its inputs
+abbrev pub EachEvaluates : Type 0
+EachEvaluates =
+    (c : Circuit) (inputs : List (List Bool)) → IsCircuit c → HaveInputWidths c inputs →
+    (outputs : List Told) × IsPlain c inputs outputs

@@ -6,7 +6,7 @@ ghost use Rattle.bristol_reader.specs.Kinds.{is_arity, output_bit};
 ghost use Rattle.bristol_reader.specs.Circuit.{is_among, are_apart};
 ghost use Rattle.bristol_reader.specs.Line.{input_bound, is_in_range};
 ghost use Rattle.bristol_reader.specs.Table.{HaveInputWidths};
-ghost use Rattle.bristol_reader.specs.Eval.{bit_at, input_bit, IsMet, AreWireBits, EvaluatesOnce};
+ghost use Rattle.bristol_reader.specs.Eval.{bit_at, input_bit, IsMet, AreWireBits, EachEvaluates, EvaluatesOnce};
 ghost use Rattle.bristol_reader.specs.Stored.{a_gate, reads_none_of};
 
 use crate::circuit::Bristol;
@@ -39,6 +39,11 @@ pub(crate) fn wire_bits(
 /// The bits of the outputs are the same whatever the bits of the wires that no gate sets.
 pub fn evaluates_once()
     ensures { EvaluatesOnce }
+{}
+
+/// Each circuit has a plain evaluation on values of its inputs.
+pub fn each_circuit_evaluates()
+    ensures { EachEvaluates }
 {}
 
 /// The bits of the input values on the first wires, and 0 on all others.

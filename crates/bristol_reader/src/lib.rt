@@ -20,7 +20,7 @@ mod write;
 
 pub use cause::{BristolCause, BristolError};
 pub use circuit::Bristol;
-pub use evaluate::evaluates_once;
+pub use evaluate::{each_circuit_evaluates, evaluates_once};
 pub use kind::BristolKind;
 pub use read::{each_read_is_circuit, each_text_reads_or_faults, read_bristol};
 pub use telling::plain_bristol;

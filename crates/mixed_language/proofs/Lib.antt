@@ -6,3 +6,4 @@ pub mod EarlierLemmas
 pub mod TableLemmas
 pub mod WidthLemmas
 pub mod EvalLemmas
+pub mod ExistsLemmas

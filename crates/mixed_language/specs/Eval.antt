@@ -129,3 +129,7 @@ pub record IsPlain (c : Circuit) (inputs : List (List Bool)) (outputs : List Tol
   pub values : List ℕ
   pub evaluated : IsEvaluated c.statements (map number inputs) values
   pub told : outputs ≡ told_of c values
+
+-- each circuit has a plain evaluation on any lists of bits
+abbrev pub EachEvaluates : Type 0
+EachEvaluates = (c : Circuit) (inputs : List (List Bool)) → (outputs : List Told) × IsPlain c inputs outputs

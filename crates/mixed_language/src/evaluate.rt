@@ -5,7 +5,7 @@ ghost use Rattle.mot_base.specs.Limits.{most_width};
 ghost use Rattle.mixed_language.specs.Circuit.{shape_of};
 ghost use Rattle.mixed_language.specs.Valid.{AreEarlier};
 ghost use Rattle.mixed_language.specs.Table.{inputs_of, owner_of, width_at};
-ghost use Rattle.mixed_language.specs.Eval.{number_made, value_made, seen_of, width_given_by, value_of_statement, IsEvaluated, EvaluatesOnce, inputs_taken};
+ghost use Rattle.mixed_language.specs.Eval.{number_made, value_made, seen_of, width_given_by, value_of_statement, IsEvaluated, EachEvaluates, EvaluatesOnce, inputs_taken};
 
 use crate::circuit::Mixed;
 use crate::form::Form;
@@ -34,6 +34,11 @@ pub(crate) fn values_of(
 /// No two lists of numbers are the values of the same statements on the same inputs.
 pub fn evaluates_once()
     ensures { EvaluatesOnce }
+{}
+
+/// Each circuit has a plain evaluation, on whatever values of its inputs.
+pub fn each_circuit_evaluates()
+    ensures { EachEvaluates }
 {}
 
 /// The number at a place, and 0 where there is none.

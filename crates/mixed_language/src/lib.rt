@@ -11,7 +11,7 @@ mod telling;
 
 pub use circuit::{Mixed, NewStatement};
 pub use circuit_tables::{InputTable, OutputTable, Outputs, Receiver, Values};
-pub use evaluate::evaluates_once;
+pub use evaluate::{each_circuit_evaluates, evaluates_once};
 pub use form::Form;
 pub use language::{Domain, Operation, Slot, Widths};
 pub use operand::Operand;

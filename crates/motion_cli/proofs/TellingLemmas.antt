@@ -20,7 +20,7 @@ use Rattle.mixed_language.specs.Language.{states, is_told_slot}
 use Rattle.mixed_language.specs.Table as mixed_table
 use Rattle.mixed_language.specs.Eval as mixed_eval
 use Rattle.mot_base.proofs.Lists.{same_some}
-use Rattle.mixed_language.proofs.EvalLemmas as values
+use Rattle.mixed_language.proofs.ExistsLemmas.{values_exist, each_evaluates}
 use Rattle.bristol_reader.specs.Kinds.{is_arity, output_bit}
 use Rattle.bristol_reader.specs.Circuit.{Gate as BristolGate, are_apart}
 use Rattle.bristol_reader.specs.Circuit as bristol
@@ -31,7 +31,7 @@ use Rattle.bristol_reader.specs.Table as bristol_table
 use Rattle.bristol_reader.specs.Eval as bristol_eval
 use Rattle.bristol_reader.proofs.InputLemmas.{flat_count}
 use Rattle.bristol_reader.proofs.TableLemmas.{have_widths}
-use Rattle.bristol_reader.proofs.EvalLemmas as wires
+use Rattle.bristol_reader.proofs.ExistsLemmas as bristol_exists
 use Rattle.plan_gates.specs.Gate.{Gate, width_at}
 use Rattle.plan_gates.specs.Plan.{Gates}
 use Rattle.plan_gates.specs.Plain.{plain_before, number_at, GateTold, told_by, plain_numbers}
@@ -45,126 +45,12 @@ use Rattle.local_engine.proofs.Told.{mixed_outputs_are_told, bristol_outputs_are
 use Rattle.motion_cli.specs.Report as report
 use Rattle.motion_cli.specs.Circuits.{Circuit, Mixed, InBristol, inputs_of, outputs_of, plan_of, IsWhole, Keeps, IsPlain}
 
--- ---- the values of a mixed circuit, statement by statement
-
-values_to : (ss : List Statement) (inputs : List ℕ) (n : ℕ) → n ≤ length ss →
-    (made : List ℕ) × values.EvaluatedTo ss inputs made n
-values_to ss inputs zero h = ([], values.none_evaluated ss inputs)
-values_to ss inputs (suc n) h =
-    let before = values_to ss inputs n (omega (arith, h)) in
-    let s = some_at ss n (omega (arith, h)) in
-    let value = mixed_eval.value_of_statement ss inputs before.0 n s.0 in (
-      before.0 ++ value ∷ [],
-      subst (values.EvaluatedTo ss inputs (before.0 ++ value ∷ [])) (add-one n)
-          (values.evaluated_next ss inputs before.0 n value before.1
-          (λ t is. ap (mixed_eval.value_of_statement ss inputs before.0 n) (same_some s.0 t (sym s.1 ∙ is)))),
-    )
-
-evaluated : (ss : List Statement) (inputs : List ℕ) → (made : List ℕ) × mixed_eval.IsEvaluated ss inputs made
-evaluated ss inputs =
-    let all = values_to ss inputs (length ss) (omega arith) in
-    (all.0, values.evaluated_all ss inputs all.0 (length ss) refl all.1)
-
-mixed_plain : (c : mixed.Circuit) (v : List (List Bool)) →
-    (outputs : List Told) × mixed_eval.IsPlain c v outputs
-mixed_plain c v =
-    let made = evaluated c.statements (map number v) in
-    (mixed_eval.told_of c made.0, record { values = made.0; evaluated = made.1; told = refl })
-
--- ---- the bits of a circuit's wires in Bristol Fashion, gate by gate
-
--- what a gate asks of the wires behind which it stands
-record Fits (old : List Bool) (g : BristolGate) : Type 0 where
-  pub arity : is_arity g.kind (length g.ins) (length g.outs) ≡ true
-  pub range : is_in_range (length old) g ≡ true
-  pub apart : are_apart g.outs ≡ true
-  pub others : reads_none_of g ≡ true
-
-outs_to : (old : List Bool) (g : BristolGate) (k : ℕ) → Fits old g → k ≤ length g.outs →
-    (now : List Bool) × wires.SetTo old g k now
-outs_to old g zero fits h = (old, wires.set_none old g)
-outs_to old g (suc k) fits h =
-    let before = outs_to old g k fits (omega (arith, h)) in
-    let bit = output_bit g.kind (bristol_eval.input_bit before.0 g) (length g.outs) k in
-    let now = set before.0 (get_or g.outs k 0) bit in (
-      now,
-      subst (λ (n : ℕ). wires.SetTo old g n now) (add-one k)
-          (wires.set_more old before.0 g k bit fits.arity fits.range fits.apart fits.others (omega (arith, h))
-          before.1 refl),
-    )
-
-wires_to : (c : bristol.Circuit) (inputs : List (List Bool)) (n : ℕ) →
-    IsBuilt c → bristol_table.HaveInputWidths c inputs → n ≤ length c.gates →
-    (made : List Bool) × wires.EvaluatedTo c inputs made n
-wires_to c inputs zero built widths h =
-    let given = flat_map (λ (v : List Bool). v) inputs in
-    let rest = replicate (c.wires - sum c.inputs) false in
-    let count : length given ≡ sum c.inputs = flat_count inputs ∙ ap sum widths.widths in
-    let more = length-replicate (c.wires - sum c.inputs) false in
-    let few = built.few_inputs in (
-      given ++ rest,
-      wires.evaluated_none c inputs (given ++ rest) (length-append given rest ∙ omega (arith, count, more, few))
-          (ap (λ (n : ℕ). take n (given ++ rest)) (sym count) ∙ take-append_seam given rest),
-    )
-wires_to c inputs (suc n) built widths h =
-    let before = wires_to c inputs n built widths (omega (arith, h)) in
-    let there = some_at c.gates n (omega (arith, h)) in
-    let g = there.0 in
-    let behind = built.each n g there.1 in
-    let fits : Fits before.0 g = record {
-      arity = behind.arity;
-      range = ap (λ (k : ℕ). is_in_range k g) before.1.count ∙ behind.range;
-      apart = (and_parts _ (are_apart g.outs) behind.once).1;
-      others = wires.reads_none (first_gates n c) g behind;
-    } in
-    let now = outs_to before.0 g (length g.outs) fits (omega arith) in (
-      now.0,
-      subst (wires.EvaluatedTo c inputs now.0) (add-one n)
-          (wires.evaluated_more c inputs before.0 now.0 n g built there.1 before.1 now.1.count
-          (wires.set_met before.0 now.0 g (length g.outs) fits.arity fits.others (omega arith) now.1)
-          (wires.set_kept before.0 now.0 g (length g.outs) (omega arith) now.1)),
-    )
-
-wire_bits : (c : bristol.Circuit) (inputs : List (List Bool)) →
-    IsBuilt c → bristol_table.HaveInputWidths c inputs →
-    (made : List Bool) × bristol_eval.AreWireBits c inputs made
-wire_bits c inputs built widths =
-    let all = wires_to c inputs (length c.gates) built widths (omega arith) in
-    (all.0, wires.evaluated_all c inputs all.0 (length c.gates) (omega arith) all.1)
-
-outputs_width : (at : ℕ) (widths : List ℕ) → total_width (bristol_table.outputs_from at widths) ≡ sum widths
-outputs_width at [] = refl
-outputs_width at (w ∷ widths) =
-    ap (λ (n : ℕ). w + n) (outputs_width (at + 1) widths) ∙ sym (sum_by-cons (λ n. n) w widths)
-
-length_outputs : (c : bristol.Circuit) (inputs : List (List Bool)) (made : List Bool) →
-    IsBuilt c → bristol_eval.AreWireBits c inputs made →
-    length (bristol_eval.output_bits c made) ≡ sum c.outputs
-length_outputs c inputs made built are =
-    let few = built.few_outputs in
-    let count = are.count in
-    length-drop (c.wires - sum c.outputs) made ∙ omega (arith, few, count)
-
-bristol_plain : (c : bristol.Circuit) (v : List (List Bool)) → IsBuilt c → bristol_table.HaveInputWidths c v →
-    (outputs : List Told) × bristol_eval.IsPlain c v outputs
-bristol_plain c v built widths =
-    let made = wire_bits c v built widths in
-    let table = bristol_table.outputs_of c in
-    let left = bristol_eval.output_bits c made.0 in (
-      cut_of table left,
-      record {
-        bits = made.0;
-        wires = made.1;
-        told = cut_is_cut table left (outputs_width 0 c.outputs ∙ sym (length_outputs c v made.0 built made.1));
-      },
-    )
-
 -- each circuit that is whole has a plain evaluation on values of its inputs
 pub plain_exists : (c : Circuit) (v : List (List Bool)) → IsWhole c → HaveWidths None (inputs_of c) v →
     (outputs : List Told) × IsPlain c v outputs
-plain_exists (Mixed c) v whole widths = mixed_plain c v
+plain_exists (Mixed c) v whole widths = each_evaluates c v
 plain_exists (InBristol b c) v whole widths =
-    bristol_plain c v whole.0.built
+    bristol_exists.each_evaluates c v whole.0
     (have_widths b.parties c (bristol_table.inputs_of b.parties c) refl v widths)
 
 -- ---- how many bits a party is told
@@ -252,7 +138,7 @@ module _ (all : List Statement) (made : List ℕ) (p : ℕ) where
 mixed_widths : (c : mixed.Circuit) (plan : Gates) (p : ℕ) → KeepsEvaluation c plan →
     total_width (asked_by p (mixed_table.outputs_of c)) ≡ sum (map (width_at plan.gates) (told_to plan p))
 mixed_widths c plan p keeps =
-    let made = evaluated c.statements [] in
+    let made = values_exist c.statements [] in
     sym (told_width plan [] p
     ∙ (ap (λ (es : List GateTold). length (bits_of_entries es p)) (keeps [] made.0 made.1).told_kept
     ∙ entries_width c.statements made.0 p c.statements))
@@ -281,7 +167,7 @@ bristol_widths : (c : bristol.Circuit) (plan : Gates) (p : ℕ) → IsBuilt c �
 bristol_widths c plan p built keeps =
     let none = zeros c.inputs in
     let widths : bristol_table.HaveInputWidths c none = record { widths = zeros_widths c.inputs } in
-    let made = wire_bits c none built widths in
+    let made = bristol_exists.wire_bits c none built widths in
     all_asked p 0 c.outputs
     ∙ sym (told_width plan (map number none) p
     ∙ (ap (λ (es : List GateTold). length (bits_of_entries es p)) (keeps none made.0 widths made.1)
