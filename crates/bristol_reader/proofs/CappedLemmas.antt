@@ -15,7 +15,7 @@ use Rattle.bristol_reader.specs.Line.{numbers_of, decimal_of, input_bound, is_in
 use Rattle.bristol_reader.specs.Grammar.{are_few, sizes_in, widths_in, sizes_said, widths_said}
 use Rattle.bristol_reader.specs.declared.cause.LineError.{LineError}
 use Rattle.bristol_reader.specs.Gives.{Gives}
-use Rattle.bristol_reader.specs.Stored.{capped, sizes_kept, widths_kept, adds_kept}
+use Rattle.bristol_reader.specs.Stored.{capped, sizes_kept, widths_kept, adds_kept, adds_words}
 use Rattle.text_lines.specs.Text.{Text}
 use Rattle.text_lines.specs.Chain.{◌>>=◌, or_cause, unless}
 
@@ -254,7 +254,7 @@ unfolding adds_numbers
 numbers_capped p kind ns h few = ap (λ (r : Result Gate BristolCause). r >>= added p) (gate_capped p.circuit kind ns h few)
 
 pub adds_same : (p : Progress) (ws : List Text) → p.circuit.wires < bound → length ws < bound → adds_kept p ws ≡ adds p ws
-unfolding adds_kept adds
+unfolding adds_kept adds_words adds
 adds_same p ws h few =
     let front : length (front_words ws) ≤ length ws = simp length-take (omega arith) in
     kind_then (or_cause GateName (kind_of (last_word ws))) _ _ (λ kind. capped_then Arity (adds_numbers p kind) (numbers_of (front_words ws)) (λ ns e. let count = numbers_count (front_words ws) ns e in numbers_capped p kind ns h (omega arith)))

@@ -44,11 +44,16 @@ widths_kept ends wires words = do
   ns ← or_cause Header (capped_numbers words)
   widths_in ends wires ns
 
+-- what the numbers of a gate say, which stand in words
+unfoldable pub adds_words : Progress → BristolKind → List Text → Result Progress BristolCause
+adds_words p kind words = do
+  numbers ← or_cause Arity (capped_numbers words)
+  adds_numbers p kind numbers
+
 unfoldable pub adds_kept : Progress → List Text → Result Progress BristolCause
 adds_kept p words = do
   kind ← or_cause GateName (kind_of (last_word words))
-  numbers ← or_cause Arity (capped_numbers (front_words words))
-  adds_numbers p kind numbers
+  adds_words p kind (front_words words)
 
 -- a gate of these parts
 abbrev pub a_gate : BristolKind → List ℕ → List ℕ → Gate

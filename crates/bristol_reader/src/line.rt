@@ -2,7 +2,7 @@ ghost use Rattle.std.specs.Prelude.{◌≡◌, ◌≤◌, ◌^◌, ◌<◌, map,
 ghost use Rattle.std.specs.List.{list_all};
 ghost use Rattle.bristol_reader.specs.Circuit.{is_set};
 ghost use Rattle.bristol_reader.specs.Line.{gate_stated, is_in_range, are_ins_set, gate_used, adds_numbers, adds};
-ghost use Rattle.bristol_reader.specs.Stored.{stated_gate, adds_kept};
+ghost use Rattle.bristol_reader.specs.Stored.{stated_gate, adds_kept, adds_words};
 ghost use Rattle.bristol_reader.specs.Gives.{Gives};
 
 use crate::builder::Builder;
@@ -38,7 +38,21 @@ fn with_line_kept(alloc: Global, builder: Builder, words: &[&[u8]]) -> Result<Bu
         return Err(LineError::Shows(BristolCause::GateName));
     };
     let kind = kind_of(name).ok_or(BristolCause::GateName)?;
-    let numbers = numbers(alloc, front)?.ok_or(BristolCause::Arity)?;
+    with_words(alloc, builder, kind, front)
+}
+
+/// The circuit with the gate of a kind whose numbers words spell.
+#[tactic(auto, unfolding(crate::specs::Stored::adds_words))]
+fn with_words(
+    alloc: Global,
+    builder: Builder,
+    kind: BristolKind,
+    words: &[&[u8]],
+) -> Result<Builder, LineError>
+    requires { length builder.circuit.gates < builder.stated }
+    ensures { Gives (λ b. b) result (adds_words builder kind (map (λ word. word.now) words.now)) }
+{
+    let numbers = numbers(alloc, words)?.ok_or(BristolCause::Arity)?;
     with_numbers(builder, kind, &numbers)
 }
 
