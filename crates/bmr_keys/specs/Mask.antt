@@ -22,6 +22,10 @@ pub record IsPart (n w : ℕ) (u : Mask) (part : MaskPart) : Type 0 where
   pub share_count : length part.times ≡ w * n
   pub shares : (i j : ℕ) → i < w → j < n → key_of n part.times i j ≡ u.shares i j
 
+-- a part in memory with n owners as a party's part
+abbrev pub seen : ℕ → MaskPart → Mask
+seen n part = record { mask = part.mask.word; keys = key_at part.keys; shares = key_of n part.times }
+
 -- how many owners a part in memory has shares for
 abbrev pub owners_of : MaskPart → ℕ
 owners_of part = length part.times / part.mask.width

@@ -12,5 +12,7 @@ pub use laws::{
     constant_recombines, flip_recombines, fresh_recombine, join_recombines, slice_recombines,
     uses_are_apart, xor_recombines, zero_keys_are_even,
 };
-pub use lists::{add_offset, add_own, is_set, joined, records_times, some_keys, with_bit, xored};
+pub use lists::{
+    add_offset, add_own, is_set, joined, key_by, records_times, some_keys, with_bit, xored,
+};
 pub use part::MaskPart;

@@ -36,6 +36,14 @@ pub fn add_offset(key: Key, set: bool, offset: Key) -> Key
     if set { Key(key.0 ^ offset.0) } else { key }
 }
 
+/// The key of a bit and an owner.
+pub fn key_by(keys: &[Key], owners: usize, i: usize, j: usize) -> Key
+    requires { i * owners + j < length keys.now }
+    ensures { result.0 ≡ key_of owners keys.now i j }
+{
+    keys[i * owners + j]
+}
+
 /// Adds a party's offset at its own place of each bit that is set in `c`.
 pub fn add_own(keys: &mut [Key], owners: usize, me: Party, offset: Key, c: Bits)
     requires me { me.0 < owners }
