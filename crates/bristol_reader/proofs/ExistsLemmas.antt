@@ -7,15 +7,15 @@ use Rattle.std.proofs.lemmas.List.{length-append, length-drop, length-replicate}
 use Rattle.std.proofs.lemmas.List.Sums.{sum_by-cons}
 use Rattle.std.proofs.Math.Seq.{take-append_seam}
 use Rattle.mot_base.proofs.Lists.{some_at}
-use Rattle.circuit_tables.specs.Table.{Told, total_width}
+use Rattle.circuit_tables.specs.Table.{total_width}
 use Rattle.circuit_tables.proofs.CutLemmas.{cut_of, cut_is_cut}
 use Rattle.bristol_reader.specs.Kinds.{is_arity, output_bit}
 use Rattle.bristol_reader.specs.Circuit.{Circuit, Gate, are_apart}
 use Rattle.bristol_reader.specs.Line.{is_in_range}
-use Rattle.bristol_reader.specs.Built.{IsBuilt, IsCircuit, first_gates}
+use Rattle.bristol_reader.specs.Built.{IsBuilt, first_gates}
 use Rattle.bristol_reader.specs.Stored.{reads_none_of}
 use Rattle.bristol_reader.specs.Table.{HaveInputWidths, outputs_from, outputs_of}
-use Rattle.bristol_reader.specs.Eval.{AreWireBits, EachEvaluates, IsPlain, input_bit, output_bits}
+use Rattle.bristol_reader.specs.Eval.{AreWireBits, EachEvaluates, input_bit, output_bits}
 use Rattle.bristol_reader.proofs.InputLemmas.{flat_count}
 use Rattle.bristol_reader.proofs.EvalLemmas.{SetTo, EvaluatedTo, set_none, set_more, set_met, set_kept, evaluated_none, evaluated_more, evaluated_all, reads_none}
 

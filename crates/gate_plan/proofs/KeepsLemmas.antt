@@ -21,13 +21,13 @@ use Rattle.share_types.specs.Wires.{wire_type, width_of}
 use Rattle.mixed_language.specs.Valid.{IsCircuit}
 use Rattle.mixed_language.specs.Table.{inputs_of, told_value, name_at, receiver_of}
 use Rattle.mixed_language.specs.Table as table
-use Rattle.mixed_language.specs.Eval.{IsEvaluated, number_made, value_made, value_of_statement, width_given_by, told_by, told_among, told_of}
+use Rattle.mixed_language.specs.Eval.{IsEvaluated, number_made, value_of_statement, width_given_by, told_by, told_among, told_of}
 use Rattle.mixed_language.specs.Eval as eval
 use Rattle.mixed_language.proofs.WidthLemmas.{circuit_wide}
 use Rattle.mot_base.proofs.Lists.{same_some, take_next}
 use Rattle.plan_gates.specs.Gate as plan
 use Rattle.plan_gates.specs.Gate.{Kind, Gate, width_at}
-use Rattle.plan_gates.specs.Plain.{number_of, seen_of, gate_number, number_at, plain_before, GateTold, told_entry, plain_numbers}
+use Rattle.plan_gates.specs.Plain.{number_of, seen_of, gate_number, number_at, plain_before, told_entry, plain_numbers}
 use Rattle.gate_plan.specs.Lowering.{Source, kind_made, source_of, operand_gate, handled_by, all_built, gates_before, lowered_before, lowered, wire_handled, width_handled}
 use Rattle.plan_gates.specs.Plain as plain
 use Rattle.gate_plan.specs.Keeps.{unnamed, KeepsValues, KeepsEvaluation}

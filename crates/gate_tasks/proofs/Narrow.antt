@@ -21,7 +21,7 @@ use Rattle.plan_gates.specs.declared.message.Message.{Message}
 use Rattle.plan_gates.specs.Messages.{words, vectors, messages_of, messages_at, are_two}
 use Rattle.share_types.specs.Wires.{includes}
 use Rattle.gate_tasks.specs.Party as party
-use Rattle.gate_tasks.specs.Party.{Own, Value, Hand, Heard, share_of, share, hand_at, wires_before, party_value, value_at, gate_value, sends_at, gate_sends, before, silence, opened_vector}
+use Rattle.gate_tasks.specs.Party.{Own, Value, Hand, share_of, share, hand_at, wires_before, party_value, value_at, gate_value, sends_at, gate_sends, before, silence, opened_vector}
 use Rattle.gate_tasks.specs.Joint.{Payloads, column, sent_by, IsJoint}
 use Rattle.gate_tasks.specs.Honest.{own_at, nobody}
 use Rattle.gate_tasks.specs.Laws.{PayloadsHaveTheirShapes}

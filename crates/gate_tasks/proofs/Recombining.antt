@@ -15,7 +15,7 @@ use Rattle.share_types.specs.declared.receiver.Receiver.{Receiver}
 use Rattle.std.specs.Option.{unwrap_or}
 use Rattle.std.specs.Prelude.{option_map}
 use Rattle.gate_tasks.specs.Party as party
-use Rattle.gate_tasks.specs.Party.{Own, Value, Hand, Heard, Rounds, share_of, share, hand_at, wires_before, party_value, value_at, gate_value, sends_at, gate_sends, before, silence, opened_word}
+use Rattle.gate_tasks.specs.Party.{Own, Value, Hand, share_of, share, hand_at, wires_before, party_value, value_at, gate_value, sends_at, gate_sends, before, silence, opened_word}
 use Rattle.gate_tasks.specs.Joint.{Payloads, column, sent_by, IsJoint}
 use Rattle.gate_tasks.specs.Honest.{own_at, nobody, AreHonest, AreInputs, Recombine}
 use Rattle.share_types.specs.declared.records.MultTriple.{MultTriple}

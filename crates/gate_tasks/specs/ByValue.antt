@@ -2,7 +2,7 @@
 use Rattle.std.specs.Prelude.{ℕ, ◌≡◌, IfSome, Bool, true, false, not, ◌+◌, ◌*◌, ◌/◌, ◌%◌, ◌^◌, ◌==◌, List, [], ◌∷◌, map, get_or, Option, Some, None, if◌then◌else◌, bit_xor}
 use Rattle.share_types.specs.Sums.{word_sum, word_difference, word_product, part_of_public, total, xor_total}
 use Rattle.arithmetic_gmw.specs.Shares as arithmetic
-use Rattle.plan_gates.specs.Gate.{Kind, Gate, Given, InA, ConstA, AddA, SubA, AddConstA, MulConstA, MulA, OutA, InB, ConstB, XorB, XorConstB, SliceB, JoinB, AndB, OutB, Word, Vector, takes, gives, width_at}
+use Rattle.plan_gates.specs.Gate.{Kind, Given, InA, ConstA, AddA, SubA, AddConstA, MulConstA, MulA, OutA, InB, ConstB, XorB, XorConstB, SliceB, JoinB, AndB, OutB, Word, Vector, takes, gives, width_at}
 use Rattle.plan_gates.specs.Gate as plan
 use Rattle.share_types.specs.Wires.{includes}
 use Rattle.gate_tasks.specs.Payload.{word_bytes, word_in, vectors_bytes, vector_in}

@@ -31,7 +31,7 @@ use Rattle.local_run.specs.declared.report.PartyReport.{PartyReport}
 use Rattle.local_run.specs.declared.cargo.Cargo.{Cargo}
 use Rattle.local_run.specs.declared.cargo.Cargo.TheVariants as cargo
 use Rattle.local_run.specs.Loads as loads
-use Rattle.local_run.specs.Loads.{tells_at, told_gates, sent_at, sent_before, report_loads, reports_loads}
+use Rattle.local_run.specs.Loads.{tells_at, sent_at, sent_before, report_loads, reports_loads}
 use Rattle.local_run.specs.Meaning.{IsFit, IsMeant, ArePairs, AreMeant, AreFit}
 use Rattle.local_run.specs.Report.{frames_before, transcript, told_to, bits_told, frame_of, frames_of, IsReport}
 use Rattle.std.proofs.lemmas.List.Elements.{All-from_recursion}

@@ -21,7 +21,7 @@ use Rattle.gate_tasks.specs.declared.value.Value.{Value as ValueInMemory}
 use Rattle.gate_tasks.specs.declared.value.Value.TheVariants as code
 use Rattle.gate_tasks.specs.declared.stage.StageOut.{StageOut}
 use Rattle.gate_tasks.specs.Party as party
-use Rattle.gate_tasks.specs.Party.{Own, Hand, Rounds, hand, share, share_of, width, before, silence, sends_at, gate_sends, round_sends, wires_before}
+use Rattle.gate_tasks.specs.Party.{Own, Hand, Rounds, hand, share, share_of, width, before, silence, gate_sends, round_sends, wires_before}
 use Rattle.gate_tasks.specs.Joint.{column}
 use Rattle.gate_tasks.specs.Honest.{own_at, nobody}
 use Rattle.gate_tasks.specs.Stage.{value_of, own_with, operands_of, operands_at, HasInput, IsOf, IsStage, Gives, Serves, AreOperands}

@@ -13,7 +13,7 @@ use Rattle.plan_gates.specs.Messages.{hears, message, awaits}
 use Rattle.plan_gates.proofs.MessageLemmas.{heard_is}
 use Rattle.gate_tasks.specs.declared.value.Value.{Value as ValueInMemory}
 use Rattle.gate_tasks.specs.Party as party
-use Rattle.gate_tasks.specs.Party.{Own, Payload, Hand, wires_before, party_value}
+use Rattle.gate_tasks.specs.Party.{Own, Payload, wires_before, party_value}
 use Rattle.gate_tasks.specs.Joint.{Payloads, column, IsJoint}
 use Rattle.gate_tasks.specs.Honest.{own_at}
 use Rattle.gate_tasks.specs.Stage.{value_of, operands_at, senders, heard_in, IsStage, IsOf, HasShape, AreOperands, AreAwaited}

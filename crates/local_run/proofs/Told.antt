@@ -1,5 +1,5 @@
 -- What each party is told, as outputs of the circuit.
-use Rattle.std.proofs.Common.{ℕ, zero, suc, ◌≡◌, ◌<◌, ◌≤◌, ◌+◌, Bool, true, false, cond, List, [], ◌∷◌, ◌++◌, length, map, take, Option, Some, None, refl, sym, ◌∙◌, ap, ap₂, subst, arith, append-nil, append_assoc}
+use Rattle.std.proofs.Common.{ℕ, zero, suc, ◌≡◌, ◌<◌, ◌≤◌, ◌+◌, Bool, true, false, cond, List, [], ◌∷◌, ◌++◌, length, map, take, Option, Some, None, refl, sym, ◌∙◌, ap, ap₂, arith, append-nil, append_assoc}
 use Rattle.std.specs.Prelude.{filter, slice_get, slice_index, option_map}
 use Rattle.std.specs.List.{flat_map}
 use Rattle.std.specs.Option.{unwrap_or}
@@ -9,9 +9,7 @@ use Rattle.std.proofs.lemmas.List.Elements.{filter-append}
 use Rattle.share_types.specs.declared.bits.Bits.{Bits}
 use Rattle.share_types.specs.Sums.{each}
 use Rattle.share_types.specs.Bits.{bits, number}
-use Rattle.share_types.proofs.BitsLemmas.{length-bits}
 use Rattle.share_types.specs.declared.receiver.Receiver.{Receiver}
-use Rattle.share_types.specs.declared.receiver.Receiver.TheVariants.{All}
 use Rattle.circuit_tables.specs.Table.{Output, Told, asked, joined_bits, AreCut}
 use Rattle.mot_base.proofs.Lists.{take_next}
 use Rattle.plan_gates.specs.Gate.{Gate, width_at, receiver_of}

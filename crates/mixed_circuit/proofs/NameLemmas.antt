@@ -1,5 +1,5 @@
 -- The names of values in a circuit, as words.
-use Rattle.std.proofs.Common.{ℕ, ◌≡◌, Bool, true, length, take, Some, None, Option, refl, cond, subst}
+use Rattle.std.proofs.Common.{ℕ, ◌≡◌, true, length, take, Some, None, Option, refl, cond, subst}
 use Rattle.std.specs.Prelude.{is_some}
 use Rattle.std.specs.Str.{IsAscii, bytes_eq}
 use Rattle.mot_base.specs.Names.{is_name}

@@ -4,7 +4,7 @@ use Rattle.std.specs.Prelude.{slice_get, option_map, option_and_then, is_some, i
 use Rattle.std.specs.List.{list_all}
 use Rattle.std.specs.Option.{unwrap_or}
 use Rattle.std.specs.Str.{bytes_eq}
-use Rattle.std.proofs.lemmas.Bool.{ltb-true, lt-ltb, eq-eqb, eqb-true}
+use Rattle.std.proofs.lemmas.Bool.{ltb-true, lt-ltb, eq-eqb}
 use Rattle.std.proofs.lemmas.List.{length-map}
 use Rattle.std.proofs.lemmas.Slice.Eq.{bytes_eq-Decides}
 use Rattle.mot_base.specs.Limits.{most_parties, most_statements}
@@ -15,13 +15,12 @@ use Rattle.share_types.specs.declared.sharing.Sharing.TheVariants.{A, B, Y}
 use Rattle.share_types.specs.declared.sharing.WireType.{WireType}
 use Rattle.share_types.specs.declared.sharing.WireType.TheVariants as wire
 use Rattle.share_types.specs.Wires.{sharing_of, is_shared, wire_type}
-use Rattle.mixed_language.specs.declared.language.Domain.{Domain}
 use Rattle.mixed_language.specs.declared.language.Operation.{Operation}
 use Rattle.mixed_language.specs.declared.operand.Operand.{Operand}
-use Rattle.mixed_language.specs.Language.{operations, word_of, domain_of, widths_of, is_in, gives, states, is_name_slot, is_letter_slot, arity_of}
+use Rattle.mixed_language.specs.Language.{operations, word_of, domain_of, is_in, gives, states, is_name_slot, is_letter_slot, arity_of}
 use Rattle.mixed_language.specs.Circuit.{Circuit, Statement, wire_at, place_of}
 use Rattle.mixed_language.specs.Table.{name_at}
-use Rattle.mixed_language.specs.Valid.{IsStatement, IsCircuit, IsNewName, AreOperands}
+use Rattle.mixed_language.specs.Valid.{IsStatement, IsCircuit, IsNewName}
 use Rattle.mixed_language.proofs.CircuitLemmas.{fields}
 use Rattle.mixed_language.proofs.EarlierLemmas.{wire_there}
 use Rattle.mixed_language.proofs.NameLemmas.{named_new}

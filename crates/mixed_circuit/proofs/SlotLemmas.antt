@@ -1,5 +1,5 @@
 -- The canonical word in each slot of a line: as the slot wants it, and what it states.
-use Rattle.std.proofs.Common.{ℕ, ◌≡◌, ◌<◌, ◌≤◌, ◌^◌, Bool, true, false, not, ◌&&◌, ◌||◌, [], ◌∷◌, length, drop, Option, Some, None, refl, ◌∙◌, ap, subst, cond, arith}
+use Rattle.std.proofs.Common.{ℕ, ◌≡◌, ◌<◌, ◌≤◌, ◌^◌, Bool, true, false, ◌&&◌, ◌||◌, [], ◌∷◌, drop, Option, Some, None, refl, ◌∙◌, ap, subst, cond, arith}
 use Rattle.std.specs.Prelude.{◌==◌, nat_le, nat_lt, option_map, option_and_then, IsSome, IfSome, codes}
 use Rattle.std.specs.Char.{is_digit, digit_value}
 use Rattle.std.specs.List.{list_all}
@@ -22,8 +22,8 @@ use Rattle.mixed_circuit.specs.Written.{letter_word, told_word}
 use Rattle.text_lines.proofs.DecimalLemmas.{decimal_plain, decimal_digits}
 use Rattle.text_lines.proofs.JoinedLemmas.{is_plain, is_plain_word, implied_all}
 use Rattle.text_lines.proofs.WordLemmas.{both, both_true}
-use Rattle.text_lines.specs.Text.{Text, is_empty}
-use Rattle.text_lines.specs.Word.{are_digits, begins_hexadecimal, number_in, number_of}
+use Rattle.text_lines.specs.Text.{Text}
+use Rattle.text_lines.specs.Word.{begins_hexadecimal, number_in, number_of}
 use Rattle.mot_base.specs.Names.{is_name, is_letter}
 
 -- ---- names

@@ -1,5 +1,5 @@
 -- What a line says may stand behind the statements before it.
-use Rattle.std.proofs.Common.{ℕ, zero, suc, ◌≡◌, ◌<◌, Bool, true, false, not, ◌&&◌, ◌||◌, ◌==◌, cond, List, [], ◌∷◌, length, map, Option, Some, None, Ok, refl, sym, ◌∙◌, ap, subst, arith}
+use Rattle.std.proofs.Common.{ℕ, zero, suc, ◌≡◌, ◌<◌, Bool, true, false, not, ◌&&◌, ◌||◌, ◌==◌, cond, List, [], ◌∷◌, length, Option, Some, None, Ok, refl, sym, ◌∙◌, ap, subst, arith}
 use Rattle.std.specs.Prelude.{slice_get, IfSome, option_map, is_none}
 use Rattle.std.specs.List.{list_all}
 use Rattle.std.specs.Option.{unwrap_or}
@@ -12,7 +12,7 @@ use Rattle.mixed_language.specs.declared.language.Operation.{Operation}
 use Rattle.mixed_language.specs.declared.operand.Operand.{Operand}
 use Rattle.mixed_language.specs.Language.{domain_of, is_in, gives, states, is_name_slot, is_letter_slot, arity_of}
 use Rattle.mixed_language.specs.Circuit.{Circuit, Statement, wire_at, place_of}
-use Rattle.mixed_language.specs.Valid.{IsStatement, IsNewName, AreOperands}
+use Rattle.mixed_language.specs.Valid.{IsStatement, IsNewName}
 use Rattle.mixed_language.proofs.RowLemmas.{each_operation, implied}
 use Rattle.mixed_circuit.specs.Line.{Parts, operand_of, operands_of, sharing_given, is_party, is_new, said}
 use Rattle.mixed_circuit.specs.Stated.{AreWhole, IsSomeName}

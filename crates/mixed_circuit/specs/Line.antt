@@ -17,7 +17,7 @@ use Rattle.mixed_language.specs.Operands.{width_by}
 use Rattle.mixed_language.specs.Language.{operations, word_of, slots_of, domain_of, is_in, gives, widths_of}
 use Rattle.mot_base.specs.Limits.{most_statements, most_width}
 use Rattle.mixed_language.specs.Circuit.{Circuit, Statement, wire_at, place_of}
-use Rattle.share_types.specs.Wires.{wire_type, sharing_of, width_of, is_shared}
+use Rattle.share_types.specs.Wires.{wire_type, sharing_of, is_shared}
 use Rattle.text_lines.specs.Text.{Text}
 use Rattle.text_lines.specs.Chain.{◌>>=◌, or_cause, unless}
 use Rattle.text_lines.specs.Word.{number_of}

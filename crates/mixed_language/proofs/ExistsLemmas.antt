@@ -1,8 +1,8 @@
 -- That each circuit has a plain evaluation.
-use Rattle.std.proofs.Common.{ℕ, zero, suc, ◌≡◌, ◌≤◌, ◌+◌, Bool, List, [], ◌∷◌, ◌++◌, length, map, refl, sym, ◌∙◌, ap, subst, add-one, arith}
+use Rattle.std.proofs.Common.{ℕ, zero, suc, ◌≡◌, ◌≤◌, ◌+◌, List, [], ◌∷◌, ◌++◌, length, map, refl, sym, ◌∙◌, ap, subst, add-one, arith}
 use Rattle.mot_base.proofs.Lists.{same_some, some_at}
 use Rattle.share_types.specs.Bits.{number}
-use Rattle.mixed_language.specs.Circuit.{Circuit, Statement}
+use Rattle.mixed_language.specs.Circuit.{Statement}
 use Rattle.mixed_language.specs.Eval.{IsEvaluated, EachEvaluates, told_of, value_of_statement}
 use Rattle.mixed_language.proofs.EvalLemmas.{EvaluatedTo, none_evaluated, evaluated_next, evaluated_all}
 

@@ -16,7 +16,7 @@ use Rattle.circuit_tables.proofs.Narrow.{some_at}
 use Rattle.dealer_files.specs.Part.{Part}
 use Rattle.plan_gates.specs.Needs.{all_needs}
 use Rattle.gate_tasks.specs.Party as party
-use Rattle.gate_tasks.specs.Party.{Own, party_value}
+use Rattle.gate_tasks.specs.Party.{Own}
 use Rattle.gate_tasks.specs.Joint.{Payloads}
 use Rattle.gate_tasks.proofs.Unique.{one_joint_run}
 use Rattle.local_run.specs.declared.report.PartyReport.{PartyReport}

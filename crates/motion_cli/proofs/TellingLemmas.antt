@@ -1,35 +1,26 @@
 -- That each circuit has a plain evaluation, and that what the gates of its plan tell a party is what that evaluation
 -- tells it.
-use Rattle.std.proofs.Common.{ℕ, zero, suc, ◌≡◌, ◌≤◌, ◌+◌, ◌-◌, Bool, true, false, cond, List, [], ◌∷◌, ◌++◌, length, map, take, get_or, set, Some, None, refl, sym, ◌∙◌, ap, ap₂, subst, add-one, arith}
+use Rattle.std.proofs.Common.{ℕ, zero, suc, ◌≡◌, ◌≤◌, ◌+◌, ◌-◌, Bool, true, false, cond, List, [], ◌∷◌, ◌++◌, length, map, Some, None, refl, sym, ◌∙◌, ap, ap₂, add-one}
 use Rattle.std.specs.Prelude.{slice_get, slice_index, sum, replicate, filter}
 use Rattle.std.specs.List.{flat_map}
-use Rattle.std.proofs.lemmas.Bool.{and_parts}
-use Rattle.std.proofs.lemmas.List.{length-append, length-drop, length-replicate, length_push}
+use Rattle.std.proofs.lemmas.List.{length-append, length-replicate, length_push}
 use Rattle.std.proofs.lemmas.List.Sums.{sum_by-cons}
-use Rattle.std.proofs.Math.Seq.{take-append_seam}
 use Rattle.share_types.specs.declared.bits.Bits.{Bits}
 use Rattle.share_types.specs.Bits.{number, bits}
 use Rattle.share_types.proofs.BitsLemmas.{length-bits}
 use Rattle.circuit_tables.specs.Table.{Output, Told, asked, joined_bits, total_width, AreCut}
 use Rattle.circuit_tables.specs.Values.{HaveWidths}
-use Rattle.circuit_tables.proofs.CutLemmas.{cut_of, cut_is_cut, cuts_once}
-use Rattle.circuit_tables.proofs.Narrow.{some_at}
+use Rattle.circuit_tables.proofs.CutLemmas.{cuts_once}
 use Rattle.mixed_language.specs.Circuit.{Statement}
 use Rattle.mixed_language.specs.Circuit as mixed
 use Rattle.mixed_language.specs.Language.{states, is_told_slot}
 use Rattle.mixed_language.specs.Table as mixed_table
 use Rattle.mixed_language.specs.Eval as mixed_eval
-use Rattle.mot_base.proofs.Lists.{same_some}
 use Rattle.mixed_language.proofs.ExistsLemmas.{values_exist, each_evaluates}
-use Rattle.bristol_reader.specs.Kinds.{is_arity, output_bit}
-use Rattle.bristol_reader.specs.Circuit.{Gate as BristolGate, are_apart}
 use Rattle.bristol_reader.specs.Circuit as bristol
-use Rattle.bristol_reader.specs.Line.{is_in_range}
-use Rattle.bristol_reader.specs.Built.{IsBuilt, first_gates}
-use Rattle.bristol_reader.specs.Stored.{reads_none_of}
+use Rattle.bristol_reader.specs.Built.{IsBuilt}
 use Rattle.bristol_reader.specs.Table as bristol_table
 use Rattle.bristol_reader.specs.Eval as bristol_eval
-use Rattle.bristol_reader.proofs.InputLemmas.{flat_count}
 use Rattle.bristol_reader.proofs.TableLemmas.{have_widths}
 use Rattle.bristol_reader.proofs.ExistsLemmas as bristol_exists
 use Rattle.plan_gates.specs.Gate.{Gate, width_at}

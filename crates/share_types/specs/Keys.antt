@@ -1,5 +1,5 @@
 -- Keys as numbers under XOR, lists of keys, and the records of shared bits and of key bits by the party's number.
-use Rattle.std.specs.Prelude.{◌≡◌, ℕ, ◌+◌, ◌*◌, ◌%◌, ◌^◌, ◌<◌, ◌==◌, if◌then◌else◌, zero, suc, Bool, true, false, List, get_or, bit_xor}
+use Rattle.std.specs.Prelude.{◌≡◌, ℕ, ◌+◌, ◌*◌, ◌%◌, ◌^◌, ◌<◌, ◌==◌, if◌then◌else◌, zero, suc, Bool, false, List, get_or, bit_xor}
 use Rattle.std.specs.Int.{bit_at}
 use Rattle.share_types.specs.Bits.{once, differ}
 use Rattle.share_types.specs.Sums.{sum_to, xor_to}
