@@ -277,7 +277,7 @@ module _ (c : Circuit) (circuit : IsCircuit c) (built : all_built c ≡ true) wh
           eval.operand_width all (slice_get s.shape.operands 0) ≡ width_at gates (operand_gate (gates_before c.parties all) (slice_get s.shape.operands 0))
       used_width h =
           let o = operand 0 h in
-          let wired = (wire_among c circuit built n s there o.0.at o.0.wire ((row c circuit built n s there).found 0 o.0 o.1)).1 in
+          let wired = (wire_among c circuit built n s there o.0.at o.0.wire ((row c circuit built n s there).uses.found 0 o.0 o.1)).1 in
           ap (eval.operand_width all) (operand_place c circuit built n s there 0 o.0 o.1)
           ∙ (ap (λ w. unwrap_or (option_map width_of w) 0) wired
           ∙ (sym (gate_width o.0.at o.0.wire wired) ∙ ap (width_at gates) (sym (numbered c circuit built n s there 0 o.0 o.1))))
@@ -327,7 +327,7 @@ module _ (c : Circuit) (circuit : IsCircuit c) (built : all_built c ≡ true) wh
           let r = row c circuit built n s there in
           let one : 1 ≤ arity_of s.shape.operation = rw e (omega arith) in
           let o = operand 0 one in
-          let wired = wire_among c circuit built n s there o.0.at o.0.wire (r.found 0 o.0 o.1) in
+          let wired = wire_among c circuit built n s there o.0.at o.0.wire (r.uses.found 0 o.0 o.1) in
           let within = slice_get_within all n s there in
           let many = evaluated.count in
           let below = wired.0 in

@@ -34,8 +34,8 @@ with_gate-requires-clause-gate c =
     let here = some_at circuit c.requires.circuit c.requires.built circuit.statements c.args.at c.requires.at in
     let wired = of_here _ here.0 (λ s. c.wire_handled.result ≡ wire_handled circuit.statements s) here.1 c.wire_handled.ensures.value in
     let same = shape_here circuit.statements c.args.at here.0 (shape_of c.form.result) here.1 c.form.ensures.value in
-    let is = code_gate circuit c.requires.circuit c.requires.built c.args.at here.0 here.1 c.in-Some-gate_of.kind c.gate_of.result (shape_of c.form.result) c.args.inputs c.in-Some.wire c.width_in.result
-    same c.requires.inputs (sym c.in-Some.is ∙ wired) c.gate_of.ensures.kind c.in-Some-gate_of.is c.width_in.ensures in
+    let is = code_gate circuit c.requires.circuit c.requires.built c.args.at here.0 here.1 c.in-Some-gate_of.kind c.gate_of.result (shape_of c.form.result) c.args.inputs c.in-Some.wire c.width.result
+    same c.requires.inputs (sym c.in-Some.is ∙ wired) c.gate_of.ensures.kind c.in-Some-gate_of.is c.width.ensures in
     let valid = gate_valid circuit c.requires.circuit c.requires.built c.args.at here.0 here.1 in
     let P : Gates → Gate → Type 0 = λ plan gate. IsGate plan.parties plan.gates gate in
     subst (λ gate. P c.args.plan gate) (sym is) (subst (λ plan. P plan (gate_at circuit c.requires.circuit c.requires.built c.args.at here.0 here.1)) (sym c.requires.before) valid)
@@ -54,8 +54,8 @@ returns-in-Some-gate_of c =
     let here = some_at circuit c.requires.circuit c.requires.built circuit.statements c.args.at c.requires.at in
     let wired = of_here _ here.0 (λ s. c.wire_handled.result ≡ wire_handled circuit.statements s) here.1 c.wire_handled.ensures.value in
     let same = shape_here circuit.statements c.args.at here.0 (shape_of c.form.result) here.1 c.form.ensures.value in
-    let is = code_gate circuit c.requires.circuit c.requires.built c.args.at here.0 here.1 c.in-Some-gate_of.kind c.gate_of.result (shape_of c.form.result) c.args.inputs c.in-Some.wire c.width_in.result
-    same c.requires.inputs (sym c.in-Some.is ∙ wired) c.gate_of.ensures.kind c.in-Some-gate_of.is c.width_in.ensures in
+    let is = code_gate circuit c.requires.circuit c.requires.built c.args.at here.0 here.1 c.in-Some-gate_of.kind c.gate_of.result (shape_of c.form.result) c.args.inputs c.in-Some.wire c.width.result
+    same c.requires.inputs (sym c.in-Some.is ∙ wired) c.gate_of.ensures.kind c.in-Some-gate_of.is c.width.ensures in
     let gates : List Gate → Gates = λ all. record { parties = circuit.parties; gates = all } in
     let later : suc c.args.at ≡ c.args.at + 1 = omega arith in
     let next = ap₂ (λ p g. with_gate p g) c.requires.before is
