@@ -9,6 +9,8 @@ mod framing;
 #[cfg(test)]
 mod inbox;
 #[cfg(test)]
+mod links;
+#[cfg(test)]
 mod outside;
 #[cfg(test)]
 mod shares;
