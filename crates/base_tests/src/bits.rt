@@ -4,7 +4,6 @@ ghost use Rattle.std.specs.Prelude.{◌≡◌, ◌<◌, ◌^◌};
 use boolean_gmw::{and_close, and_open, share_out, xor, xor_const};
 use mot_base::{Party, Seed};
 use share_types::{BitTriple, Bits};
-use std::test::Fail;
 
 fn is_vector(bits: Bits, word: u64, width: u8) -> bool {
     bits.word == word && bits.width == width
@@ -34,11 +33,17 @@ static VECTORS: [(u64, u8, bool); 13] = [
     (0, 255, false),
 ];
 
+fn is_told(word: u64, width: u8, is_found: bool) -> bool {
+    match Bits::new(word, width) {
+        Some(bits) => is_found && is_vector(bits, word, width),
+        None => !is_found,
+    }
+}
+
 // the number of the first row that is otherwise
 fn wrong_vector(rows: &[(u64, u8, bool)]) -> Option<usize> {
     for (at, (word, width, is_found)) in rows.iter().enumerate() {
-        let found = Bits::new(*word, *width);
-        if found.is_some() != *is_found || (*is_found && !are_bits(found, *word, *width)) {
+        if !is_told(*word, *width, *is_found) {
             return Some(at);
         }
     }
@@ -234,8 +239,10 @@ fn are_shares(shares: &[Bits]) -> bool {
 }
 
 #[test]
-fn a_vector_is_shared_by_low_bits_of_share_words(rt: HostRuntime) -> Result<(), Fail> {
-    let shares = share_out(rt.alloc(), four(0b1100), &Seed([0; 32]), 0, 0, Party(0), 2)?;
-    assert!(rt; are_shares(&shares));
-    Ok(())
+fn a_vector_is_shared_by_low_bits_of_share_words(rt: HostRuntime) {
+    let is_shared = match share_out(rt.alloc(), four(0b1100), &Seed([0; 32]), 0, 0, Party(0), 2) {
+        Ok(shares) => are_shares(&shares),
+        Err(_) => false,
+    };
+    assert!(rt; is_shared);
 }

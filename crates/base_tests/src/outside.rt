@@ -6,7 +6,6 @@ use mot_base::{
     WriteFailed, write_all,
 };
 use std::alloc::{AllocError, Global};
-use std::test::Fail;
 
 fn names(alloc: Global) -> Result<Vec<String>, AllocError>
     ensures { IfOk result (λ names. vec_len names ≡ 2) }
@@ -63,11 +62,12 @@ fn wrong_load(
 }
 
 #[test]
-fn a_load_gives_what_the_name_holds(rt: HostRuntime) -> Result<(), Fail> {
-    let mut files = shelf(rt.alloc(), &[3])?;
-    let wrong = wrong_load(rt.alloc(), &mut files, &LOADS);
+fn a_load_gives_what_the_name_holds(rt: HostRuntime) {
+    let wrong = match shelf(rt.alloc(), &[3]) {
+        Ok(mut files) => wrong_load(rt.alloc(), &mut files, &LOADS),
+        Err(_) => Some(0),
+    };
     assert!(rt; wrong.is_none(), "load {wrong:?}");
-    Ok(())
 }
 
 static HELD: [(&str, Option<&[u8]>); 3] = [
@@ -87,11 +87,12 @@ fn wrong_content(files: &MemFiles, rows: &[(&str, Option<&[u8]>)]) -> Option<usi
 }
 
 #[test]
-fn get_sees_what_files_hold(rt: HostRuntime) -> Result<(), Fail> {
-    let files = shelf(rt.alloc(), &[])?;
-    let wrong = wrong_content(&files, &HELD);
+fn get_sees_what_files_hold(rt: HostRuntime) {
+    let wrong = match shelf(rt.alloc(), &[]) {
+        Ok(files) => wrong_content(&files, &HELD),
+        Err(_) => Some(0),
+    };
     assert!(rt; wrong.is_none(), "name {wrong:?}");
-    Ok(())
 }
 
 // a file of one byte more than a file may have, whose first load is to fail
@@ -108,12 +109,17 @@ fn too_long_content(alloc: Global) -> Result<Vec<Vec<u8>>, AllocError>
     Ok(vec![in alloc; content]?)
 }
 
+fn is_too_long(loaded: &Result<Vec<u8>, FileError>) -> bool {
+    matches!(loaded, Err(FileError::TooLong))
+}
+
 #[test]
-fn too_long_comes_before_a_fault(rt: HostRuntime) -> Result<(), Fail> {
-    let mut files = too_long(rt.alloc())?;
-    let loaded = files.load(rt.alloc(), "long");
-    assert!(rt; is_answer(&loaded, &Err(FileError::TooLong)));
-    Ok(())
+fn too_long_comes_before_a_fault(rt: HostRuntime) {
+    let is_refused = match too_long(rt.alloc()) {
+        Ok(mut files) => is_too_long(&files.load(rt.alloc(), "long")),
+        Err(_) => false,
+    };
+    assert!(rt; is_refused);
 }
 
 // the name and the content of each store in turn, and its answer, where the second call fails
@@ -145,16 +151,17 @@ fn wrong_store(
     None
 }
 
+fn are_stored(alloc: Global, files: &mut MemFiles) -> bool {
+    wrong_store(alloc, files, &STORES).is_none() && wrong_content(files, &STORED).is_none()
+}
+
 #[test]
-fn a_store_puts_what_the_name_holds(rt: HostRuntime) -> Result<(), Fail> {
-    let mut files = shelf(rt.alloc(), &[2])?;
-    let store = wrong_store(rt.alloc(), &mut files, &STORES);
-    let name = wrong_content(&files, &STORED);
-    assert!(rt;
-        store.is_none() && name.is_none(),
-        "store {store:?}, name {name:?}"
-    );
-    Ok(())
+fn a_store_puts_what_the_name_holds(rt: HostRuntime) {
+    let is_stored = match shelf(rt.alloc(), &[2]) {
+        Ok(mut files) => are_stored(rt.alloc(), &mut files),
+        Err(_) => false,
+    };
+    assert!(rt; is_stored);
 }
 
 fn is_given_back(alloc: Global, files: &mut impl Files) -> bool {
@@ -165,11 +172,10 @@ fn is_given_back(alloc: Global, files: &mut impl Files) -> bool {
 }
 
 #[test]
-fn the_machine_gives_back_what_was_stored(rt: HostRuntime) -> Result<(), Fail> {
-    let is_well = is_given_back(rt.alloc(), &mut HostFiles::new(&rt));
-    std::fs::remove_file(&rt, "stored")?;
-    assert!(rt; is_well);
-    Ok(())
+fn the_machine_gives_back_what_was_stored(rt: HostRuntime) {
+    let is_given_back = is_given_back(rt.alloc(), &mut HostFiles::new(&rt));
+    let is_removed = std::fs::remove_file(&rt, "stored").is_ok();
+    assert!(rt; is_given_back && is_removed);
 }
 
 fn is_share(payload: &Payload) -> bool {
@@ -184,10 +190,12 @@ fn is_copied(alloc: Global, payload: &Payload) -> bool {
 }
 
 #[test]
-fn a_payload_is_copied(rt: HostRuntime) -> Result<(), Fail> {
-    let payload = Payload::new(Vec::from_slice(rt.alloc(), b"share")?);
-    assert!(&rt; is_copied(rt.alloc(), &payload));
-    Ok(())
+fn a_payload_is_copied(rt: HostRuntime) {
+    let is_copied = match Vec::from_slice(rt.alloc(), b"share") {
+        Ok(bytes) => is_copied(rt.alloc(), &Payload::new(bytes)),
+        Err(_) => false,
+    };
+    assert!(rt; is_copied);
 }
 
 struct Writing {

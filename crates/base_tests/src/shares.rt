@@ -2,10 +2,9 @@
 ghost use Rattle.std.specs.Prelude.{◌<◌};
 
 use arithmetic_gmw::{add, mul_close, mul_const, mul_open, share_out, sub};
-use mot_base::{NoMemory, Party, Seed, derive, tape_share};
+use mot_base::{Party, Seed, derive, tape_share};
 use share_types::{Kind, MultTriple, Needs, TooFew};
 use std::alloc::Global;
-use std::test::Fail;
 
 const SEED: Seed = Seed([0; 32]);
 
@@ -20,13 +19,23 @@ fn is_forty_two(d: u64, e: u64) -> bool {
     own == 23 && other == 19 && add(own, other) == 42
 }
 
-#[test]
-fn six_times_seven_is_forty_two(rt: HostRuntime) {
+fn are_words(words: (u64, u64), first: u64, second: u64) -> bool {
+    words.0 == first && words.1 == second
+}
+
+// whether the parties open 9 and -6 of six, whose sum is 3, and 3 and 0 of seven
+fn opens_by_hand() -> bool {
     let first = mul_open(10, 5, FIRST);
     let second = mul_open(18446744073709551612, 2, SECOND);
-    assert!(rt; first == (9, 3) && second == (18446744073709551610, 0));
-    let (d, e) = (add(first.0, second.0), add(first.1, second.1));
-    assert!(rt; d == 3 && e == 3 && is_forty_two(d, e));
+    are_words(first, 9, 3)
+        && are_words(second, 18446744073709551610, 0)
+        && add(first.0, second.0) == 3
+        && add(first.1, second.1) == 3
+}
+
+#[test]
+fn six_times_seven_is_forty_two(rt: HostRuntime) {
+    assert!(rt; opens_by_hand() && is_forty_two(3, 3));
 }
 
 #[test]
@@ -34,23 +43,27 @@ fn differences_and_multiples_wrap(rt: HostRuntime) {
     assert!(rt; sub(3, 5) == 18446744073709551614 && mul_const(9223372036854775808, 2) == 0);
 }
 
-// whether the shares that a party makes of 42 at a gate are these
-fn are_shares(alloc: Global, gate: u32, by: Party, wanted: &[u64]) -> bool
+// the shares of a value that a party makes for two
+fn two_shares(alloc: Global, value: u64, seed: &Seed, gate: u32, by: Party) -> (u64, u64)
     requires gate { gate < 2 }
     requires by { by.0 < 2 }
 {
-    match share_out(alloc, 42, &SEED, 0, gate, by, 2) {
-        Ok(shares) => shares.as_slice() == wanted,
-        Err(_) => false,
+    match share_out(alloc, value, seed, 0, gate, by, 2) {
+        Ok(shares) => (shares[0], shares[1]),
+        Err(_) => (0, 0),
     }
+}
+
+fn are_shared(by_first: (u64, u64), by_second: (u64, u64)) -> bool {
+    are_words(by_first, 14340404568559226139, 4106339505150325519)
+        && are_words(by_second, 14919549667416841381, 3527194406292710277)
 }
 
 #[test]
 fn a_value_is_shared_among_two(rt: HostRuntime) {
-    let by_first = [14340404568559226139, 4106339505150325519];
-    let by_second = [14919549667416841381, 3527194406292710277];
-    let are_by_first = are_shares(rt.alloc(), 0, Party(0), &by_first);
-    assert!(&rt; are_by_first && are_shares(rt.alloc(), 1, Party(1), &by_second));
+    let by_first = two_shares(rt.alloc(), 42, &SEED, 0, Party(0));
+    let by_second = two_shares(rt.alloc(), 42, &SEED, 1, Party(1));
+    assert!(rt; are_shared(by_first, by_second));
 }
 
 fn sum(shares: &[u64]) -> u64 {
@@ -61,22 +74,34 @@ fn sum(shares: &[u64]) -> u64 {
     sum
 }
 
-// whether each other party than party 3 has the word of the tape
+// whether a party, if it is not party 3, has the word of the tape
+fn is_of_the_tape(to: usize, share: u64) -> bool {
+    to == 3 || (to < 8 && share == tape_share(&SEED, 1, 5, Party(to as u8)))
+}
+
 fn are_of_the_tape(shares: &[u64]) -> bool {
-    for to in [0, 1, 2, 4, 5, 6, 7] {
-        if shares.get(usize::from(to)).copied() != Some(tape_share(&SEED, 1, 5, Party(to))) {
+    for (to, share) in shares.iter().enumerate() {
+        if !is_of_the_tape(to, *share) {
             return false;
         }
     }
     true
 }
 
+fn are_shares_of_eight(shares: &[u64]) -> bool {
+    shares.len() == 8
+        && sum(shares) == 42
+        && shares[7] == 8037835242136318986
+        && are_of_the_tape(shares)
+}
+
 #[test]
-fn a_value_is_shared_among_eight(rt: HostRuntime) -> Result<(), Fail> {
-    let shares = share_out(rt.alloc(), 42, &SEED, 1, 5, Party(3), 8)?;
-    assert!(rt; shares.len() == 8 && sum(&shares) == 42);
-    assert!(rt; shares[7] == 8037835242136318986 && are_of_the_tape(&shares));
-    Ok(())
+fn a_value_is_shared_among_eight(rt: HostRuntime) {
+    let are_shares = match share_out(rt.alloc(), 42, &SEED, 1, 5, Party(3), 8) {
+        Ok(shares) => are_shares_of_eight(&shares),
+        Err(_) => false,
+    };
+    assert!(rt; are_shares);
 }
 
 // the triple that the dealer's tape of the seed of 32 zero bytes gives first
@@ -92,26 +117,9 @@ const DEALT_SECOND: MultTriple = MultTriple {
     c: 0x376253001c56c67d,
 };
 
-fn two_shares(
-    alloc: Global,
-    value: u64,
-    seed: &Seed,
-    gate: u32,
-    by: Party,
-) -> Result<[u64; 2], NoMemory>
-    requires gate { gate < 2 }
-    requires by { by.0 < 2 }
-{
-    let shares = share_out(alloc, value, seed, 0, gate, by, 2)?;
-    Ok(match shares.as_slice() {
-        [first, second] => [*first, *second],
-        _ => [0, 0],
-    })
-}
-
 fn are_opened(first: (u64, u64), second: (u64, u64)) -> bool {
-    first == (0xc5dbb4e069c6f0cd, 0x30741d53df25567e)
-        && second == (0x14d14cc3e5bf377f, 0x9433ae578d3898ca)
+    are_words(first, 0xc5dbb4e069c6f0cd, 0x30741d53df25567e)
+        && are_words(second, 0x14d14cc3e5bf377f, 0x9433ae578d3898ca)
 }
 
 fn is_told(first: (u64, u64), second: (u64, u64)) -> bool {
@@ -121,22 +129,21 @@ fn is_told(first: (u64, u64), second: (u64, u64)) -> bool {
     own == 0x255183ed892bfb19 && other == 0xdaae7c1276d40511 && add(own, other) == 42
 }
 
-fn is_sent(six: [u64; 2], seven: [u64; 2]) -> bool {
-    let ([x, sent_x], [sent_y, y]) = (six, seven);
-    let first = mul_open(x, sent_y, DEALT_FIRST);
-    let second = mul_open(sent_x, y, DEALT_SECOND);
-    sent_x == 0xa052138367b59734
-        && sent_y == 0x4c9efaee32a7e0b4
+// whether the parties open and tell what they have to, with their own shares and those that they are sent
+fn is_sent(six: (u64, u64), seven: (u64, u64)) -> bool {
+    let first = mul_open(six.0, seven.0, DEALT_FIRST);
+    let second = mul_open(six.1, seven.1, DEALT_SECOND);
+    six.1 == 0xa052138367b59734
+        && seven.0 == 0x4c9efaee32a7e0b4
         && are_opened(first, second)
         && is_told(first, second)
 }
 
 #[test]
-fn six_times_seven_is_sent_as_recorded(rt: HostRuntime) -> Result<(), Fail> {
-    let six = two_shares(rt.alloc(), 6, &derive(&SEED, 0), 0, Party(0))?;
-    let seven = two_shares(rt.alloc(), 7, &derive(&SEED, 1), 1, Party(1))?;
+fn six_times_seven_is_sent_as_recorded(rt: HostRuntime) {
+    let six = two_shares(rt.alloc(), 6, &derive(&SEED, 0), 0, Party(0));
+    let seven = two_shares(rt.alloc(), 7, &derive(&SEED, 1), 1, Party(1));
     assert!(rt; is_sent(six, seven));
-    Ok(())
 }
 
 const STOCK: Needs = Needs {

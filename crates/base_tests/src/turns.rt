@@ -8,7 +8,6 @@ use mot_base::NoMemory;
 use std::alloc::Global;
 use std::marker::Brand;
 use std::sync::ledger::{Blank, Ledger};
-use std::test::Fail;
 use turn_core::{Dag, DagError, DrainWork, Edge, OUTSIDE, Steps, TERMINAL, Turns};
 
 // item 1 waits for item 0
@@ -26,12 +25,20 @@ fn waits(turns: &mut Turns) -> bool {
     first == 0 && turns.next() == Some(1) && turns.next().is_none()
 }
 
+fn is_turned(alloc: Global, dag: &Dag) -> bool {
+    match Turns::new(alloc, dag) {
+        Ok(mut turns) => waits(&mut turns),
+        Err(_) => false,
+    }
+}
+
 #[test]
-fn an_item_waits_for_the_one_before_it(rt: HostRuntime) -> Result<(), Fail> {
-    let dag = graph(rt.alloc(), 2, &PAIR)?;
-    let mut turns = Turns::new(rt.alloc(), &dag)?;
-    assert!(rt; waits(&mut turns));
-    Ok(())
+fn an_item_waits_for_the_one_before_it(rt: HostRuntime) {
+    let is_waiting = match graph(rt.alloc(), 2, &PAIR) {
+        Ok(dag) => is_turned(rt.alloc(), &dag),
+        Err(_) => false,
+    };
+    assert!(rt; is_waiting);
 }
 
 // item 0 waits for an edge from outside
@@ -48,12 +55,20 @@ fn waits_for_the_edge(turns: &mut Turns, dag: &Dag) -> bool
         && turns.next().is_none()
 }
 
+fn is_held_back(alloc: Global, dag: &Dag) -> bool {
+    match Turns::new(alloc, dag) {
+        Ok(mut turns) => waits_for_the_edge(&mut turns, dag),
+        Err(_) => false,
+    }
+}
+
 #[test]
-fn an_edge_from_outside_holds_its_item_back(rt: HostRuntime) -> Result<(), Fail> {
-    let dag = graph(rt.alloc(), 1, &FED)?;
-    let mut turns = Turns::new(rt.alloc(), &dag)?;
-    assert!(rt; waits_for_the_edge(&mut turns, &dag));
-    Ok(())
+fn an_edge_from_outside_holds_its_item_back(rt: HostRuntime) {
+    let is_held_back = match graph(rt.alloc(), 1, &FED) {
+        Ok(dag) => is_held_back(rt.alloc(), &dag),
+        Err(_) => false,
+    };
+    assert!(rt; is_held_back);
 }
 
 // so many items, edges, and why they make no graph
@@ -130,13 +145,19 @@ fn wrong_item(dag: &Dag, rows: &[(u32, &[u32], &[u32])]) -> Option<u32> {
     None
 }
 
+fn are_edges_of_the_diamond(dag: &Dag) -> bool {
+    dag.edges().len() == 6
+        && ends_with(dag.edges(), 3, TERMINAL)
+        && wrong_item(dag, &LISTS).is_none()
+}
+
 #[test]
-fn the_edges_of_an_item_stand_in_rising_order(rt: HostRuntime) -> Result<(), Fail> {
-    let dag = graph(rt.alloc(), 4, &DIAMOND)?;
-    assert!(rt; dag.edges().len() == 6 && ends_with(dag.edges(), 3, TERMINAL));
-    let wrong = wrong_item(&dag, &LISTS);
-    assert!(rt; wrong.is_none(), "item {wrong:?}");
-    Ok(())
+fn the_edges_of_an_item_stand_in_rising_order(rt: HostRuntime) {
+    let are_listed = match graph(rt.alloc(), 4, &DIAMOND) {
+        Ok(dag) => are_edges_of_the_diamond(&dag),
+        Err(_) => false,
+    };
+    assert!(rt; are_listed);
 }
 
 fn is_order_of_the_pair(order: &[u32]) -> bool {
@@ -165,12 +186,16 @@ fn turns_the_diamond(alloc: Global, dag: &Dag) -> bool {
 }
 
 #[test]
-fn each_item_is_turned_once_behind_those_that_lead_to_it(rt: HostRuntime) -> Result<(), Fail> {
-    let pair = graph(rt.alloc(), 2, &PAIR)?;
-    assert!(&rt; turns_the_pair(rt.alloc(), &pair));
-    let diamond = graph(rt.alloc(), 4, &DIAMOND)?;
-    assert!(&rt; turns_the_diamond(rt.alloc(), &diamond));
-    Ok(())
+fn each_item_is_turned_once_behind_those_that_lead_to_it(rt: HostRuntime) {
+    let turns_the_pair = match graph(rt.alloc(), 2, &PAIR) {
+        Ok(pair) => turns_the_pair(rt.alloc(), &pair),
+        Err(_) => false,
+    };
+    let turns_the_diamond = match graph(rt.alloc(), 4, &DIAMOND) {
+        Ok(diamond) => turns_the_diamond(rt.alloc(), &diamond),
+        Err(_) => false,
+    };
+    assert!(rt; turns_the_pair && turns_the_diamond);
 }
 
 /// A graph of so many items and of edges from one item to another.

@@ -76,8 +76,8 @@ fn wrong_circuit(alloc: Global, rows: &[(&[u8], &[u8], &str)]) -> Option<usize> 
     None
 }
 
-/// Circuits with the values of their inputs, and their outputs.
-static CIRCUITS: [(&[u8], &[u8], &str); 31] = [
+/// Circuits of one gate, with the values of their inputs, and their outputs.
+static OF_ONE_GATE: [(&[u8], &[u8], &str); 20] = [
     (
         b"1 3\n2 1 1\n1 1\n\n2 1 0 1 2 AND\n",
         b"in0 = 0\nin1 = 0\n",
@@ -146,6 +146,16 @@ static CIRCUITS: [(&[u8], &[u8], &str); 31] = [
     (b"1 2\n1 1\n1 1\n1 1 0 1 EQW\n", b"in0 = 1\n", "out0=1"),
     (b"1 2\n1 1\n1 1\n1 1 0 1 EQ\n", b"in0 = 1\n", "out0=0"),
     (b"1 2\n1 1\n1 1\n1 1 1 1 EQ\n", b"in0 = 1\n", "out0=1"),
+];
+
+#[test]
+fn gates_compute_these_outputs(rt: HostRuntime) {
+    let wrong = wrong_circuit(rt.alloc(), &OF_ONE_GATE);
+    assert!(rt; wrong.is_none(), "circuit {wrong:?}");
+}
+
+/// The same of several gates and outputs, in several writings.
+static CIRCUITS: [(&[u8], &[u8], &str); 11] = [
     (
         b"4 9\n1 4\n1 3\n\n1 1 1 4 EQ\n1 1 0 5 EQW\n4 2 2 3 4 5 6 7 MAND\n2 1 6 7 8 XOR\n",
         b"in0 = 0x9\n",
@@ -215,19 +225,23 @@ fn circuit_of(alloc: Global, text: &[u8]) -> Option<Bristol> {
     if text.len() > MAX_FILE_LENGTH {
         return None;
     }
-    read_bristol(alloc, text).ok()
+    match read_bristol(alloc, text) {
+        Ok(circuit) => Some(circuit),
+        Err(_) => None,
+    }
 }
 
-fn is_gate(circuit: &Bristol, at: u32, kind: BristolKind, ins: &[u32], outs: &[u32]) -> bool {
-    at < circuit.len()
-        && circuit.kind(at) == kind
-        && circuit.ins(at) == ins
-        && circuit.outs(at) == outs
+fn is_gate(circuit: &Bristol, at: usize, kind: BristolKind, ins: &[u32], outs: &[u32]) -> bool {
+    if at >= circuit.len() as usize {
+        return false;
+    }
+    let at = at as u32;
+    circuit.kind(at) == kind && circuit.ins(at) == ins && circuit.outs(at) == outs
 }
 
 /// Whether a circuit has these gates and no others.
 fn has_gates(circuit: &Bristol, gates: &[(BristolKind, &[u32], &[u32])]) -> bool {
-    for (at, (kind, ins, outs)) in (0..circuit.len()).zip(gates) {
+    for (at, (kind, ins, outs)) in gates.iter().enumerate() {
         if !is_gate(circuit, at, *kind, ins, outs) {
             return false;
         }

@@ -1,14 +1,10 @@
 //! The plans of some circuits, and how many gates others have.
-ghost use Rattle.std.specs.Prelude.{◌≤◌, length};
-ghost use Rattle.mot_base.specs.Limits.{most_file_bytes};
-
 use circuit_values::Receiver;
 use gate_plan::{GateKind, Plan, PlanError, Shape, SlotSpec, lower_mixed, lowered_gates};
-use mixed_circuit::read_mixed;
+use mixed_circuit::{Mixed, read_mixed};
 use mot_base::{MAX_FILE_LENGTH, Party};
 use share_types::{Bits, Needs};
-use std::alloc::Global;
-use std::test::Fail;
+use std::alloc::{AllocError, Global};
 
 static PRODUCT: &[u8] =
     b"mixed 1\nparties 2\nx = input 0 A\ny = input 1 A\nz = mul x y\noutput z all\n";
@@ -28,12 +24,23 @@ output j 1
 output a all
 ";
 
+/// A circuit from its text.
+fn circuit_of(alloc: Global, text: &[u8]) -> Option<Mixed> {
+    if text.len() > MAX_FILE_LENGTH {
+        return None;
+    }
+    match read_mixed(alloc, text) {
+        Ok(circuit) => Some(circuit),
+        Err(_) => None,
+    }
+}
+
 /// The plan of a circuit.
-fn plan_of(alloc: Global, text: &[u8]) -> Result<Plan, Fail>
-    requires { length text.now ≤ most_file_bytes }
-{
-    let circuit = read_mixed(alloc, text)?;
-    Ok(lower_mixed(alloc, &circuit)?)
+fn plan_of(alloc: Global, text: &[u8]) -> Option<Plan> {
+    match circuit_of(alloc, text) {
+        Some(circuit) => lower_mixed(alloc, &circuit).ok(),
+        None => None,
+    }
 }
 
 /// So many multiplication triples and bit triples.
@@ -68,102 +75,106 @@ fn vectors(from: u8, gate: u32, len: u32, count: u8, width: u8) -> SlotSpec {
     }
 }
 
-#[test]
-fn the_product_has_four_gates_and_three_messages_to_party_0(rt: HostRuntime) -> Result<(), Fail> {
-    assert!(rt; PRODUCT.len() <= MAX_FILE_LENGTH);
-    let plan = plan_of(rt.alloc(), PRODUCT)?;
-    assert_eq!(rt; plan.gates(), 4);
-    assert_eq!(rt;
-        plan.gate(0),
-        GateKind::InA {
-            party: Party(0),
-            k: 0
-        }
-    );
-    assert_eq!(rt;
-        plan.gate(1),
-        GateKind::InA {
-            party: Party(1),
-            k: 1
-        }
-    );
-    assert_eq!(rt; plan.gate(2), GateKind::MulA { x: 0, y: 1 });
-    assert_eq!(rt;
-        plan.gate(3),
-        GateKind::OutA {
-            x: 2,
-            to: Receiver::All
-        }
-    );
-    assert_eq!(rt; plan.needs(), needs(1, 0));
-    assert_eq!(rt; plan.offset(2), needs(0, 0));
-    assert_eq!(rt; plan.offset(3), needs(1, 0));
-    let slots = plan.slots_to(rt.alloc(), Party(0))?;
-    let expected = [words(1, 1, 8), words(1, 2, 16), words(1, 3, 8)];
-    assert_eq!(rt; slots.as_slice(), expected.as_slice());
-    Ok(())
+fn is_gate(plan: &Plan, gate: u32, kind: GateKind) -> bool {
+    gate < plan.gates() && plan.gate(gate) == kind
+}
+
+fn is_input_of_words(plan: &Plan, gate: u32, party: u8, k: u32) -> bool {
+    let party = Party(party);
+    is_gate(plan, gate, GateKind::InA { party, k })
+}
+
+/// Whether these are all messages to a party.
+fn are_slots(alloc: Global, plan: &Plan, party: u8, slots: &[SlotSpec]) -> bool {
+    match plan.slots_to(alloc, Party(party)) {
+        Ok(seen) => seen.as_slice() == slots,
+        Err(_) => false,
+    }
+}
+
+fn has_gates_of_the_product(plan: &Plan) -> bool {
+    let to = Receiver::All;
+    plan.gates() == 4
+        && is_input_of_words(plan, 0, 0, 0)
+        && is_input_of_words(plan, 1, 1, 1)
+        && is_gate(plan, 2, GateKind::MulA { x: 0, y: 1 })
+        && is_gate(plan, 3, GateKind::OutA { x: 2, to })
+}
+
+fn has_needs_of_the_product(plan: &Plan) -> bool {
+    plan.gates() == 4
+        && plan.needs() == needs(1, 0)
+        && plan.offset(2) == needs(0, 0)
+        && plan.offset(3) == needs(1, 0)
+}
+
+fn is_plan_of_the_product(alloc: Global, plan: &Plan) -> bool {
+    let slots = [words(1, 1, 8), words(1, 2, 16), words(1, 3, 8)];
+    has_gates_of_the_product(plan)
+        && has_needs_of_the_product(plan)
+        && are_slots(alloc, plan, 0, &slots)
 }
 
 #[test]
-fn vectors_have_these_gates_and_messages(rt: HostRuntime) -> Result<(), Fail> {
-    assert!(rt; VECTORS.len() <= MAX_FILE_LENGTH);
-    let plan = plan_of(rt.alloc(), VECTORS)?;
-    assert_eq!(rt; plan.gates(), 10);
-    assert_eq!(rt;
-        plan.gate(0),
-        GateKind::InB {
-            party: Party(2),
-            k: 0,
-            at: 0,
-            width: 12
-        }
-    );
-    assert_eq!(rt;
-        plan.gate(1),
-        GateKind::InB {
-            party: Party(0),
-            k: 1,
-            at: 0,
-            width: 12
-        }
-    );
-    assert_eq!(rt; plan.gate(2), GateKind::AndB { x: 0, y: 1 });
-    assert_eq!(rt; plan.gate(3), GateKind::XorB { x: 2, y: 0 });
-    assert_eq!(rt;
-        Bits::new(4095, 12).map(|c| GateKind::XorConstB { x: 3, c }),
-        Some(plan.gate(4))
-    );
-    assert_eq!(rt;
-        plan.gate(5),
-        GateKind::SliceB {
-            x: 4,
-            at: 3,
-            width: 5
-        }
-    );
-    assert_eq!(rt;
-        Bits::new(9, 4).map(|c| GateKind::ConstB { c }),
-        Some(plan.gate(6))
-    );
-    assert_eq!(rt; plan.gate(7), GateKind::JoinB { x: 5, y: 6 });
-    assert_eq!(rt;
-        plan.gate(8),
-        GateKind::OutB {
-            x: 7,
-            to: Receiver::One(Party(1))
-        }
-    );
-    assert_eq!(rt;
-        plan.gate(9),
-        GateKind::OutB {
-            x: 2,
-            to: Receiver::All
-        }
-    );
-    assert_eq!(rt; plan.needs(), needs(0, 12));
-    assert_eq!(rt; plan.width(7), 9);
-    let slots = plan.slots_to(rt.alloc(), Party(1))?;
-    let expected = [
+fn the_product_has_four_gates_and_three_messages_to_party_0(rt: HostRuntime) {
+    let is_planned = match plan_of(rt.alloc(), PRODUCT) {
+        Some(plan) => is_plan_of_the_product(rt.alloc(), &plan),
+        None => false,
+    };
+    assert!(rt; is_planned);
+}
+
+/// Whether a gate is an input of twelve bits.
+fn is_input_of_bits(plan: &Plan, gate: u32, party: u8, k: u32) -> bool {
+    let kind = GateKind::InB {
+        party: Party(party),
+        k,
+        at: 0,
+        width: 12,
+    };
+    is_gate(plan, gate, kind)
+}
+
+fn is_xor_const(plan: &Plan, gate: u32, x: u32, word: u64, width: u8) -> bool {
+    match Bits::new(word, width) {
+        Some(c) => is_gate(plan, gate, GateKind::XorConstB { x, c }),
+        None => false,
+    }
+}
+
+fn is_const(plan: &Plan, gate: u32, word: u64, width: u8) -> bool {
+    match Bits::new(word, width) {
+        Some(c) => is_gate(plan, gate, GateKind::ConstB { c }),
+        None => false,
+    }
+}
+
+fn is_slice(plan: &Plan, gate: u32, x: u32, at: u8, width: u8) -> bool {
+    is_gate(plan, gate, GateKind::SliceB { x, at, width })
+}
+
+fn is_output_of_bits(plan: &Plan, gate: u32, x: u32, to: Receiver) -> bool {
+    is_gate(plan, gate, GateKind::OutB { x, to })
+}
+
+fn has_first_gates_of_the_vectors(plan: &Plan) -> bool {
+    is_input_of_bits(plan, 0, 2, 0)
+        && is_input_of_bits(plan, 1, 0, 1)
+        && is_gate(plan, 2, GateKind::AndB { x: 0, y: 1 })
+        && is_gate(plan, 3, GateKind::XorB { x: 2, y: 0 })
+        && is_xor_const(plan, 4, 3, 4095, 12)
+}
+
+fn has_other_gates_of_the_vectors(plan: &Plan) -> bool {
+    is_slice(plan, 5, 4, 3, 5)
+        && is_const(plan, 6, 9, 4)
+        && is_gate(plan, 7, GateKind::JoinB { x: 5, y: 6 })
+        && is_output_of_bits(plan, 8, 7, Receiver::One(Party(1)))
+        && is_output_of_bits(plan, 9, 2, Receiver::All)
+}
+
+fn are_slots_of_the_vectors(alloc: Global, plan: &Plan) -> bool {
+    let slots = [
         vectors(0, 1, 2, 1, 12),
         vectors(0, 2, 4, 2, 12),
         vectors(0, 8, 2, 1, 9),
@@ -173,33 +184,67 @@ fn vectors_have_these_gates_and_messages(rt: HostRuntime) -> Result<(), Fail> {
         vectors(2, 8, 2, 1, 9),
         vectors(2, 9, 2, 1, 12),
     ];
-    assert_eq!(rt; slots.as_slice(), expected.as_slice());
-    Ok(())
+    are_slots(alloc, plan, 1, &slots)
+}
+
+fn is_plan_of_the_vectors(alloc: Global, plan: &Plan) -> bool {
+    plan.gates() == 10
+        && plan.needs() == needs(0, 12)
+        && plan.width(7) == 9
+        && has_first_gates_of_the_vectors(plan)
+        && has_other_gates_of_the_vectors(plan)
+        && are_slots_of_the_vectors(alloc, plan)
 }
 
 #[test]
-fn stages_wait_for_the_rounds_in_which_a_party_receives(rt: HostRuntime) -> Result<(), Fail> {
-    assert!(rt; VECTORS.len() <= MAX_FILE_LENGTH);
-    let plan = plan_of(rt.alloc(), VECTORS)?;
-    assert!(rt; plan.gates() == 10);
-    // The owner of an input hears nothing, and who is not told an output hears nothing of it.
-    assert_eq!(rt; plan.stages(Party(2), 0), 1);
-    assert_eq!(rt; plan.stages(Party(0), 0), 2);
-    assert_eq!(rt; plan.stages(Party(0), 2), 2);
-    assert_eq!(rt; plan.stages(Party(0), 3), 1);
-    assert_eq!(rt; plan.stages(Party(0), 8), 1);
-    assert_eq!(rt; plan.stages(Party(1), 8), 2);
-    assert_eq!(rt; plan.awaits(Party(1), 8, 0), None);
-    assert_eq!(rt; plan.awaits(Party(1), 8, 1), Some(0));
-    assert_eq!(rt; plan.awaits(Party(1), 8, 2), None);
-    assert_eq!(rt; plan.awaits(Party(0), 8, 1), None);
-    assert_eq!(rt; plan.slot(Party(0), Party(1), 2, 0), Some(4));
-    assert_eq!(rt; plan.slot(Party(0), Party(1), 2, 1), None);
-    assert_eq!(rt; plan.slot(Party(1), Party(1), 2, 0), None);
-    assert_eq!(rt; plan.slot(Party(0), Party(3), 2, 0), None);
-    assert_eq!(rt; plan.outputs_of(Party(0)), 1);
-    assert_eq!(rt; plan.outputs_of(Party(1)), 2);
-    Ok(())
+fn vectors_have_these_gates_and_messages(rt: HostRuntime) {
+    let is_planned = match plan_of(rt.alloc(), VECTORS) {
+        Some(plan) => is_plan_of_the_vectors(rt.alloc(), &plan),
+        None => false,
+    };
+    assert!(rt; is_planned);
+}
+
+/// The owner of an input hears nothing, and who is not told an output hears nothing of it.
+fn has_stages(plan: &Plan) -> bool {
+    plan.gates() == 10
+        && plan.stages(Party(2), 0) == 1
+        && plan.stages(Party(0), 0) == 2
+        && plan.stages(Party(0), 2) == 2
+        && plan.stages(Party(0), 3) == 1
+        && plan.stages(Party(0), 8) == 1
+        && plan.stages(Party(1), 8) == 2
+}
+
+fn awaits_rounds(plan: &Plan) -> bool {
+    plan.gates() == 10
+        && plan.awaits(Party(1), 8, 0).is_none()
+        && plan.awaits(Party(1), 8, 1) == Some(0)
+        && plan.awaits(Party(1), 8, 2).is_none()
+        && plan.awaits(Party(0), 8, 1).is_none()
+}
+
+fn has_messages(plan: &Plan) -> bool {
+    plan.gates() == 10
+        && plan.slot(Party(0), Party(1), 2, 0) == Some(4)
+        && plan.slot(Party(0), Party(1), 2, 1).is_none()
+        && plan.slot(Party(1), Party(1), 2, 0).is_none()
+        && plan.slot(Party(0), Party(3), 2, 0).is_none()
+}
+
+fn tells_outputs(plan: &Plan) -> bool {
+    plan.outputs_of(Party(0)) == 1 && plan.outputs_of(Party(1)) == 2
+}
+
+#[test]
+fn stages_wait_for_the_rounds_in_which_a_party_receives(rt: HostRuntime) {
+    let is_planned = match plan_of(rt.alloc(), VECTORS) {
+        Some(plan) => {
+            has_stages(&plan) && awaits_rounds(&plan) && has_messages(&plan) && tells_outputs(&plan)
+        }
+        None => false,
+    };
+    assert!(rt; is_planned);
 }
 
 /// Circuits, the number of their gates, and whether they are lowered.
@@ -257,40 +302,68 @@ static COUNTS: [(&[u8], u64, bool); 11] = [
     ),
 ];
 
-#[test]
-fn circuits_have_so_many_gates(rt: HostRuntime) -> Result<(), Fail> {
-    for (text, gates, is_lowered) in &COUNTS {
-        assert!(rt; text.len() <= MAX_FILE_LENGTH);
-        let circuit = read_mixed(rt.alloc(), text)?;
-        assert_eq!(rt; lowered_gates(&circuit), *gates, "{text:?}");
-        let lowered = lower_mixed(rt.alloc(), &circuit);
-        match lowered {
-            Ok(plan) => assert!(rt;
-                *is_lowered && u64::from(plan.gates()) == *gates,
-                "{text:?}"
-            ),
-            Err(cause) => assert!(rt; !*is_lowered && cause == PlanError::NotBuilt, "{text:?}"),
+/// Whether a circuit is lowered to so many gates, or cannot be lowered yet.
+fn is_lowered_to(alloc: Global, circuit: &Mixed, gates: u64, is_lowered: bool) -> bool {
+    match lower_mixed(alloc, circuit) {
+        Ok(plan) => is_lowered && u64::from(plan.gates()) == gates,
+        Err(cause) => !is_lowered && cause == PlanError::NotBuilt,
+    }
+}
+
+fn is_counted(alloc: Global, text: &[u8], gates: u64, is_lowered: bool) -> bool {
+    match circuit_of(alloc, text) {
+        Some(circuit) => {
+            lowered_gates(&circuit) == gates && is_lowered_to(alloc, &circuit, gates, is_lowered)
+        }
+        None => false,
+    }
+}
+
+/// The number of the first circuit with another number of gates.
+fn wrong_count(alloc: Global, rows: &[(&[u8], u64, bool)]) -> Option<usize> {
+    for (at, (text, gates, is_lowered)) in rows.iter().enumerate() {
+        if !is_counted(alloc, text, *gates, *is_lowered) {
+            return Some(at);
         }
     }
-    Ok(())
+    None
+}
+
+#[test]
+fn circuits_have_so_many_gates(rt: HostRuntime) {
+    let wrong = wrong_count(rt.alloc(), &COUNTS);
+    assert!(rt; wrong.is_none(), "circuit {wrong:?}");
+}
+
+fn push_conversion(alloc: Global, text: &mut String, number: u32) -> Result<(), AllocError> {
+    let line = format!(in alloc; "y{number} = a2y x\n")?;
+    text.push_str(line.as_str())
 }
 
 /// A circuit of eight parties with so many conversions of one input to keys.
-fn with_conversions(alloc: Global, count: u32) -> Result<String, Fail> {
+fn with_conversions(alloc: Global, count: u32) -> Result<String, AllocError> {
     let mut text = String::from_str(alloc, "mixed 1\nparties 8\nx = input 0 A\n")?;
     for number in 0..count {
-        text.push_str(format!(in alloc; "y{number} = a2y x\n")?.as_str())?;
+        push_conversion(alloc, &mut text, number)?;
     }
     Ok(text)
 }
 
-#[test]
-fn gates_are_counted_beyond_the_limit(rt: HostRuntime) -> Result<(), Fail> {
-    for (count, gates) in &[(557, 4_192_540), (558, 4_200_067)] {
-        let text = with_conversions(rt.alloc(), *count)?;
-        assert!(rt; text.len() <= MAX_FILE_LENGTH);
-        let circuit = read_mixed(rt.alloc(), text.as_bytes())?;
-        assert_eq!(rt; lowered_gates(&circuit), *gates);
+fn has_gates(alloc: Global, text: &[u8], gates: u64) -> bool {
+    match circuit_of(alloc, text) {
+        Some(circuit) => lowered_gates(&circuit) == gates,
+        None => false,
     }
-    Ok(())
+}
+
+fn have_gates(alloc: Global, conversions: u32, gates: u64) -> bool {
+    match with_conversions(alloc, conversions) {
+        Ok(text) => has_gates(alloc, text.as_bytes(), gates),
+        Err(_) => false,
+    }
+}
+
+#[test]
+fn gates_are_counted_beyond_the_limit(rt: HostRuntime) {
+    assert!(&rt; have_gates(rt.alloc(), 557, 4_192_540) && have_gates(rt.alloc(), 558, 4_200_067));
 }

@@ -1,6 +1,6 @@
 //! The tasks of a product and of an AND: what they lack, what they send, and what they give.
 
-ghost use Rattle.std.specs.Prelude.{◌≡◌, ◌<◌, ℕ, IfOk};
+ghost use Rattle.std.specs.Prelude.{◌≡◌, ◌<◌, ℕ, IfSome};
 ghost use Rattle.gate_tasks.specs.Task.{ExpectsAll};
 
 use crate::conditions::{hold_types, serve};
@@ -10,11 +10,9 @@ use gate_plan::{Plan, lower_mixed};
 use gate_tasks::{Env, GateTask, Need, Own, Step, Value, Wires};
 use message_demux::{Inbox, Slot};
 use mixed_circuit::read_mixed;
-use mot_base::{MAX_FILE_LENGTH, NoMemory, Party, Payload, Seed};
+use mot_base::{MAX_FILE_LENGTH, Party, Payload, Seed};
 use share_types::{Bits, Needs};
 use std::alloc::Global;
-use std::process::Abort;
-use std::test::Fail;
 
 static PRODUCT: &[u8] =
     b"mixed 1\nparties 2\nx = input 0 A\ny = input 1 A\nz = mul x y\noutput z all\n";
@@ -107,127 +105,116 @@ fn text_of(width: u8) -> &'static [u8] {
 }
 
 /// A share of a word or of a vector of a width.
-fn share_of(width: u8, share: u64) -> Result<Value, Fail> {
+fn share_of(width: u8, share: u64) -> Option<Value> {
     if width == 64 {
-        return Ok(Value::A(share));
+        return Some(Value::A(share));
     }
-    let vector = Bits::new(share, width).ok_or(NoMemory)?;
-    Ok(Value::B(vector))
+    match Bits::new(share, width) {
+        Some(vector) => Some(Value::B(vector)),
+        None => None,
+    }
 }
 
-/// An inbox for all messages to a party, with the payload of a gate from another one, if there is one.
-fn inbox_of(
-    alloc: Global,
-    plan: &Plan,
-    me: Party,
-    from: Party,
-    payload: Option<Payload>,
-) -> Result<Inbox, Fail>
-    ensures { IfOk result (λ inbox. (g : ℕ) → ExpectsAll plan.now me.0 g inbox) }
-{
-    let slots = plan.slots_to(alloc, me)?;
-    let mut inbox = Inbox::new(alloc, slots)?;
-    if let Some(payload) = payload {
-        inbox.deliver(alloc, from, 2, 0, payload)?;
+/// The plan of a circuit.
+fn plan_of(alloc: Global, text: &[u8]) -> Option<Plan> {
+    if text.len() > MAX_FILE_LENGTH {
+        return None;
     }
-    Ok(inbox)
+    match read_mixed(alloc, text) {
+        Ok(circuit) => lower_mixed(alloc, &circuit).ok(),
+        Err(_) => None,
+    }
+}
+
+/// A part of a deal, from its file in hexadecimal digits.
+fn part_of(alloc: Global, text: &str) -> Option<DealerPart> {
+    match hex::decode(alloc, text) {
+        Ok(bytes) => read_dealer(alloc, bytes.as_slice()).ok(),
+        Err(_) => None,
+    }
+}
+
+/// What a party has, which gives no input.
+fn own_of(alloc: Global, me: u8) -> Option<Own>
+    ensures { IfSome result (λ own. own.me.0 ≡ me) }
+{
+    match read_values(alloc, b"", &InputTable::new(alloc), None) {
+        Ok(inputs) => Some(Own {
+            me: Party(me),
+            seed: Seed([0; 32]),
+            inputs,
+            session: 0,
+            bases: Needs {
+                mult: 0,
+                bit: 0,
+                shared: 0,
+                key: 0,
+            },
+        }),
+        Err(_) => None,
+    }
+}
+
+/// An inbox for all messages to a party.
+fn empty_inbox(alloc: Global, plan: &Plan, me: Party) -> Option<Inbox>
+    ensures { IfSome result (λ inbox. (g : ℕ) → ExpectsAll plan.now me.0 g inbox) }
+{
+    match plan.slots_to(alloc, me) {
+        Ok(slots) => Inbox::new(alloc, slots).ok(),
+        Err(_) => None,
+    }
+}
+
+/// The same, with the payload of gate 2 from another party.
+fn full_inbox(alloc: Global, plan: &Plan, me: Party, from: Party, payload: Payload) -> Option<Inbox>
+    ensures { IfSome result (λ inbox. (g : ℕ) → ExpectsAll plan.now me.0 g inbox) }
+{
+    match empty_inbox(alloc, plan, me) {
+        Some(mut inbox) => match inbox.deliver(alloc, from, 2, 0, payload) {
+            Ok(_) => Some(inbox),
+            Err(_) => None,
+        },
+        None => None,
+    }
 }
 
 /// How a task answers whose conditions hold.
-fn polled(rt: &impl Abort, alloc: Global, task: &mut GateTask, env: &Env) -> Result<Step, Fail>
+fn polled(alloc: Global, task: &mut GateTask, env: &Env) -> Option<Step>
     requires { (g : ℕ) → ExpectsAll env.now.plan.now env.now.own.now.me.0 g env.now.inbox.now }
 {
-    assert!(rt; serve(env.plan, env.own, env.part, task.gate()));
-    assert!(rt; hold_types(env.plan, task.gate(), env.wires));
-    assert!(rt; task.gate() < env.plan.gates());
-    assert!(rt; task.stage() < env.plan.stages(env.own.me, task.gate()));
-    Ok(task.poll(alloc, env)?)
+    if !serve(env.plan, env.own, env.part, task.gate())
+        || !hold_types(env.plan, task.gate(), env.wires)
+        || task.gate() >= env.plan.gates()
+        || task.stage() >= env.plan.stages(env.own.me, task.gate())
+    {
+        return None;
+    }
+    task.poll(alloc, env).ok()
 }
 
 /// The bytes of a text in hexadecimal digits, as a payload.
-fn payload(alloc: Global, text: &str) -> Result<Payload, Fail> {
-    Ok(Payload::new(hex::decode(alloc, text)?))
-}
-
-/// Runs the task of gate 2 in a row.
-fn run_row(rt: &impl Abort, alloc: Global, row: &Row) -> Result<(), Fail> {
-    let text = text_of(row.width);
-    assert!(rt; text.len() <= MAX_FILE_LENGTH);
-    let circuit = read_mixed(alloc, text)?;
-    let plan = lower_mixed(alloc, &circuit)?;
-    let part = read_dealer(alloc, hex::decode(alloc, row.part)?.as_slice())?;
-    let own = Own {
-        me: Party(row.me),
-        seed: Seed([0; 32]),
-        inputs: read_values(alloc, b"", &InputTable::new(alloc), None)?,
-        session: 0,
-        bases: Needs {
-            mult: 0,
-            bit: 0,
-            shared: 0,
-            key: 0,
-        },
-    };
-    assert!(rt; plan.gates() == 4);
-    assert!(rt; row.me < 2);
-    let other = Party(1 - row.me);
-    let empty = inbox_of(alloc, &plan, own.me, other, None)?;
-    let heard = payload(alloc, row.heard)?;
-    let full = inbox_of(alloc, &plan, own.me, other, Some(heard))?;
-    run_task(rt, alloc, row, &plan, &own, &part, &empty, &full)
-}
-
-/// Runs the task of gate 2 in a row, with an inbox that keeps nothing and one that keeps what the task waits for.
-fn run_task(
-    rt: &impl Abort,
-    alloc: Global,
-    row: &Row,
-    plan: &Plan,
-    own: &Own,
-    part: &DealerPart,
-    empty: &Inbox,
-    full: &Inbox,
-) -> Result<(), Fail>
-    requires me { own.now.me.0 < 2 }
-    requires empty { (g : ℕ) → ExpectsAll plan.now own.now.me.0 g empty.now }
-    requires full { (g : ℕ) → ExpectsAll plan.now own.now.me.0 g full.now }
-{
-    let other = Party(1 - own.me.0);
-    let slot = Slot {
-        from: other,
-        gate: 2,
-        round: 0,
-    };
-    let none = Wires::new(alloc, 4)?;
-    let first = wires_of(alloc, row, 1)?;
-    let both = wires_of(alloc, row, 2)?;
-    let mut task = GateTask::new(2);
-    let step = polled(rt, alloc, &mut task, &env_of(plan, own, part, &none, empty))?;
-    assert!(rt; lacks(&step, Need::Wire(0)));
-    let step = polled(
-        rt,
-        alloc,
-        &mut task,
-        &env_of(plan, own, part, &first, empty),
-    )?;
-    assert!(rt; lacks(&step, Need::Wire(1)));
-    let step = polled(rt, alloc, &mut task, &env_of(plan, own, part, &both, empty))?;
-    assert!(rt; sends(&step, other, payload(alloc, row.sent)?.bytes()));
-    let step = polled(rt, alloc, &mut task, &env_of(plan, own, part, &both, empty))?;
-    assert!(rt; lacks(&step, Need::Slot(slot)));
-    let step = polled(rt, alloc, &mut task, &env_of(plan, own, part, &both, full))?;
-    assert!(rt; gives(&step, row.share));
-    Ok(())
-}
-
-/// The shares of the first one or of both operands.
-fn wires_of(alloc: Global, row: &Row, count: u32) -> Result<Wires<Value>, Fail> {
-    let mut wires = Wires::new(alloc, 4)?;
-    wires.set(0, share_of(row.width, row.x)?);
-    if count == 2 {
-        wires.set(1, share_of(row.width, row.y)?);
+fn payload(alloc: Global, text: &str) -> Option<Payload> {
+    match hex::decode(alloc, text) {
+        Ok(bytes) => Some(Payload::new(bytes)),
+        Err(_) => None,
     }
-    Ok(wires)
+}
+
+/// The shares of the first operands, of which there are so many.
+fn wires_of(alloc: Global, row: &Row, count: u32) -> Option<Wires<Value>> {
+    let (Some(x), Some(y)) = (share_of(row.width, row.x), share_of(row.width, row.y)) else {
+        return None;
+    };
+    let Ok(mut wires) = Wires::new(alloc, 4) else {
+        return None;
+    };
+    if count >= 1 {
+        wires.set(0, x);
+    }
+    if count >= 2 {
+        wires.set(1, y);
+    }
+    Some(wires)
 }
 
 /// What a party has to run gates.
@@ -277,10 +264,170 @@ fn gives(step: &Step, share: u64) -> bool {
     }
 }
 
-#[test]
-fn a_product_and_an_and_run_in_their_stages(rt: HostRuntime) -> Result<(), Fail> {
-    for row in &ROWS {
-        run_row(&rt, rt.alloc(), row)?;
+/// Whether a task answers that it lacks this.
+fn is_lacking(alloc: Global, task: &mut GateTask, env: &Env, need: Need) -> bool
+    requires { (g : ℕ) → ExpectsAll env.now.plan.now env.now.own.now.me.0 g env.now.inbox.now }
+{
+    match polled(alloc, task, env) {
+        Some(step) => lacks(&step, need),
+        None => false,
     }
-    Ok(())
+}
+
+/// Whether a task answers with this message.
+fn is_sending(alloc: Global, task: &mut GateTask, env: &Env, to: Party, payload: &Payload) -> bool
+    requires { (g : ℕ) → ExpectsAll env.now.plan.now env.now.own.now.me.0 g env.now.inbox.now }
+{
+    match polled(alloc, task, env) {
+        Some(step) => sends(&step, to, payload.bytes()),
+        None => false,
+    }
+}
+
+/// Whether a task answers with this share.
+fn is_giving(alloc: Global, task: &mut GateTask, env: &Env, share: u64) -> bool
+    requires { (g : ℕ) → ExpectsAll env.now.plan.now env.now.own.now.me.0 g env.now.inbox.now }
+{
+    match polled(alloc, task, env) {
+        Some(step) => gives(&step, share),
+        None => false,
+    }
+}
+
+/// Whether a task lacks the operand behind those that are there.
+fn lacks_operand(
+    alloc: Global,
+    row: &Row,
+    task: &mut GateTask,
+    plan: &Plan,
+    own: &Own,
+    part: &DealerPart,
+    inbox: &Inbox,
+    count: u32,
+) -> bool
+    requires { (g : ℕ) → ExpectsAll plan.now own.now.me.0 g inbox.now }
+{
+    match wires_of(alloc, row, count) {
+        Some(wires) => is_lacking(
+            alloc,
+            task,
+            &env_of(plan, own, part, &wires, inbox),
+            Need::Wire(count),
+        ),
+        None => false,
+    }
+}
+
+/// Whether a task sends what it has to and then waits for the other party, where both operands are there.
+fn sends_and_waits(alloc: Global, task: &mut GateTask, env: &Env, other: Party, sent: &str) -> bool
+    requires { (g : ℕ) → ExpectsAll env.now.plan.now env.now.own.now.me.0 g env.now.inbox.now }
+{
+    let slot = Slot {
+        from: other,
+        gate: 2,
+        round: 0,
+    };
+    match payload(alloc, sent) {
+        Some(sent) => {
+            is_sending(alloc, task, env, other, &sent)
+                && is_lacking(alloc, task, env, Need::Slot(slot))
+        }
+        None => false,
+    }
+}
+
+/// Whether a task goes on as a row says once both operands are there.
+fn goes_on(
+    alloc: Global,
+    row: &Row,
+    task: &mut GateTask,
+    plan: &Plan,
+    own: &Own,
+    part: &DealerPart,
+    empty: &Inbox,
+    full: &Inbox,
+) -> bool
+    requires me { own.now.me.0 < 2 }
+    requires empty { (g : ℕ) → ExpectsAll plan.now own.now.me.0 g empty.now }
+    requires full { (g : ℕ) → ExpectsAll plan.now own.now.me.0 g full.now }
+{
+    let Some(wires) = wires_of(alloc, row, 2) else {
+        return false;
+    };
+    let other = Party(1 - own.me.0);
+    let before = env_of(plan, own, part, &wires, empty);
+    let after = env_of(plan, own, part, &wires, full);
+    sends_and_waits(alloc, task, &before, other, row.sent)
+        && is_giving(alloc, task, &after, row.share)
+}
+
+/// Whether the task of gate 2 answers as a row says, with an inbox that keeps nothing and then one that keeps
+/// what the task waits for.
+fn is_run(
+    alloc: Global,
+    row: &Row,
+    plan: &Plan,
+    own: &Own,
+    part: &DealerPart,
+    empty: &Inbox,
+    full: &Inbox,
+) -> bool
+    requires me { own.now.me.0 < 2 }
+    requires empty { (g : ℕ) → ExpectsAll plan.now own.now.me.0 g empty.now }
+    requires full { (g : ℕ) → ExpectsAll plan.now own.now.me.0 g full.now }
+{
+    let mut task = GateTask::new(2);
+    lacks_operand(alloc, row, &mut task, plan, own, part, empty, 0)
+        && lacks_operand(alloc, row, &mut task, plan, own, part, empty, 1)
+        && goes_on(alloc, row, &mut task, plan, own, part, empty, full)
+}
+
+/// The same with the inboxes of a party.
+fn is_run_by(alloc: Global, row: &Row, plan: &Plan, own: &Own, part: &DealerPart) -> bool
+    requires { own.now.me.0 < 2 }
+{
+    let Some(heard) = payload(alloc, row.heard) else {
+        return false;
+    };
+    let other = Party(1 - own.me.0);
+    let empty = empty_inbox(alloc, plan, own.me);
+    let full = full_inbox(alloc, plan, own.me, other, heard);
+    match (empty, full) {
+        (Some(empty), Some(full)) => is_run(alloc, row, plan, own, part, &empty, &full),
+        _ => false,
+    }
+}
+
+/// The same under a plan.
+fn is_run_under(alloc: Global, row: &Row, plan: &Plan) -> bool {
+    if plan.gates() != 4 || row.me >= 2 {
+        return false;
+    }
+    match (own_of(alloc, row.me), part_of(alloc, row.part)) {
+        (Some(own), Some(part)) => is_run_by(alloc, row, plan, &own, &part),
+        _ => false,
+    }
+}
+
+fn is_row(alloc: Global, row: &Row) -> bool {
+    match plan_of(alloc, text_of(row.width)) {
+        Some(plan) => is_run_under(alloc, row, &plan),
+        None => false,
+    }
+}
+
+/// The number of the first row whose task answers otherwise.
+fn wrong_row(alloc: Global, rows: &[Row]) -> Option<usize> {
+    for (at, row) in rows.iter().enumerate() {
+        if !is_row(alloc, row) {
+            return Some(at);
+        }
+    }
+    None
+}
+
+#[test]
+fn a_product_and_an_and_run_in_their_stages(rt: HostRuntime) {
+    let wrong = wrong_row(rt.alloc(), &ROWS);
+    assert!(rt; wrong.is_none(), "row {wrong:?}");
 }

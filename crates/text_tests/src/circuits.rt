@@ -2,25 +2,44 @@
 ghost use Rattle.std.specs.Prelude.{◌≤◌, length};
 ghost use Rattle.mot_base.specs.Limits.{most_file_bytes};
 
-use mixed_circuit::{CircuitCause, CircuitError, Receiver, read_mixed};
-use mot_base::{MAX_FILE_LENGTH, MAX_STATEMENTS, NoMemory, Party};
+use mixed_circuit::{
+    CircuitCause, CircuitError, Form, InputTable, Mixed, OutputTable, Receiver, read_mixed,
+};
+use mot_base::{MAX_FILE_LENGTH, MAX_STATEMENTS, Party};
 use share_types::WireType;
-use std::alloc::Global;
-use std::test::Fail;
+use std::alloc::{AllocError, Global};
 
 /// The number of statements that a text says, or the first line that shows a cause, with that cause.
-fn outcome(alloc: Global, text: &[u8]) -> Result<(u32, Option<CircuitCause>), NoMemory>
+fn outcome(alloc: Global, text: &[u8]) -> Option<(u32, Option<CircuitCause>)>
     requires { length text.now ≤ most_file_bytes }
 {
     match read_mixed(alloc, text) {
-        Ok(circuit) => Ok((circuit.len(), None)),
-        Err(CircuitError::At { line, cause }) => Ok((line, Some(cause))),
-        Err(CircuitError::NoMemory) => Err(NoMemory),
+        Ok(circuit) => Some((circuit.len(), None)),
+        Err(CircuitError::At { line, cause }) => Some((line, Some(cause))),
+        Err(CircuitError::NoMemory) => None,
     }
 }
 
-/// Texts, and the first line that shows a cause with that cause, or the number of statements that a text says.
-static TEXTS: [(&[u8], u32, Option<CircuitCause>); 51] = [
+/// Whether this comes of a text.
+fn is_read(alloc: Global, text: &[u8], number: u32, cause: Option<CircuitCause>) -> bool {
+    text.len() <= MAX_FILE_LENGTH && outcome(alloc, text) == Some((number, cause))
+}
+
+/// The number of the first text of which something else comes.
+fn wrong_text(alloc: Global, rows: &[(&[u8], u32, Option<CircuitCause>)]) -> Option<usize> {
+    for (at, (text, number, cause)) in rows.iter().enumerate() {
+        if !is_read(alloc, text, *number, *cause) {
+            return Some(at);
+        }
+    }
+    None
+}
+
+// In both tables: a text, and the first line that shows a cause with that cause, or the number of
+// statements that a text says.
+
+/// The first two lines.
+static HEADERS: [(&[u8], u32, Option<CircuitCause>); 32] = [
     (b"", 1, Some(CircuitCause::Header)),
     (b"\n", 1, Some(CircuitCause::Header)),
     (b"\n\n\n", 3, Some(CircuitCause::Header)),
@@ -69,6 +88,16 @@ static TEXTS: [(&[u8], u32, Option<CircuitCause>); 51] = [
     (b"mixed 2 # \x7f\n", 1, Some(CircuitCause::NotText)),
     (b"mixed 1 # parties 2\n\n\n", 3, Some(CircuitCause::Header)),
     (b"1048577 3", 1, Some(CircuitCause::Header)),
+];
+
+#[test]
+fn the_first_two_lines_say_the_language_and_the_parties(rt: HostRuntime) {
+    let wrong = wrong_text(rt.alloc(), &HEADERS);
+    assert!(rt; wrong.is_none(), "text {wrong:?}");
+}
+
+/// Statements, and lines that say none.
+static STATEMENTS: [(&[u8], u32, Option<CircuitCause>); 19] = [
     (
         b"mixed 1\nparties 3\noutput x all\n",
         3,
@@ -157,6 +186,12 @@ static TEXTS: [(&[u8], u32, Option<CircuitCause>); 51] = [
         None,
     ),
 ];
+
+#[test]
+fn the_first_statement_with_a_cause_is_named(rt: HostRuntime) {
+    let wrong = wrong_text(rt.alloc(), &STATEMENTS);
+    assert!(rt; wrong.is_none(), "text {wrong:?}");
+}
 
 /// The statements before each of `LINES`.
 static FRONT: &[u8] =
@@ -409,49 +444,71 @@ static LINES: &str = "\
 12 BadNumber: output q 18446744073709551616\n\
 ";
 
-#[test]
-fn texts_read_or_have_these_first_faults(rt: HostRuntime) -> Result<(), Fail> {
-    for (text, number, cause) in &TEXTS {
-        assert!(rt; text.len() <= MAX_FILE_LENGTH);
-        let seen = outcome(rt.alloc(), text)?;
-        assert_eq!(rt; seen, (*number, *cause), "{text:?}");
-    }
-    Ok(())
-}
-
 /// Two texts, one behind the other.
-fn joined(alloc: Global, front: &[u8], more: &[u8]) -> Result<Vec<u8>, NoMemory> {
-    let mut text = Vec::new(alloc);
-    text.extend_from_slice(front)?;
+fn joined(alloc: Global, front: &[u8], more: &[u8]) -> Result<Vec<u8>, AllocError> {
+    let mut text = Vec::from_slice(alloc, front)?;
     text.extend_from_slice(more)?;
     Ok(text)
 }
 
-/// The number of statements or of the line, and the cause, of a line behind `FRONT`.
-fn shown(alloc: Global, line: &str) -> Result<String, Fail> {
-    let text = joined(alloc, FRONT, line.as_bytes())?;
-    if text.len() > MAX_FILE_LENGTH {
-        return Ok(String::new(alloc));
-    }
-    match outcome(alloc, &text)? {
-        (line, Some(cause)) => Ok(format!(in alloc; "{line} {cause:?}")?),
-        (statements, None) => Ok(format!(in alloc; "{statements} reads")?),
+/// How `LINES` name what comes of a line.
+fn name_of(cause: Option<CircuitCause>) -> &'static str {
+    let Some(cause) = cause else {
+        return "reads";
+    };
+    match cause {
+        CircuitCause::NotText => "NotText",
+        CircuitCause::Header => "Header",
+        CircuitCause::Word => "Word",
+        CircuitCause::BadNumber => "BadNumber",
+        CircuitCause::BadParty => "BadParty",
+        CircuitCause::NameTwice => "NameTwice",
+        CircuitCause::NameUnknown => "NameUnknown",
+        CircuitCause::WrongSharing => "WrongSharing",
+        CircuitCause::WrongWidth => "WrongWidth",
+        CircuitCause::TooMany => "TooMany",
     }
 }
 
-#[test]
-fn lines_behind_some_values_read_or_have_these_first_faults(rt: HostRuntime) -> Result<(), Fail> {
-    let mut count: u32 = 0;
-    for row in LINES.lines() {
-        let Some((expected, line)) = row.split_once(": ") else {
-            continue;
-        };
-        let seen = shown(rt.alloc(), line)?;
-        assert_eq!(rt; seen.as_str(), expected, "{line}");
-        count = count.saturating_add(1);
+/// Whether a number and the name of a cause, with a blank between them, tell what comes of a text.
+fn is_told(alloc: Global, text: &[u8], wanted: &str) -> bool {
+    if text.len() > MAX_FILE_LENGTH {
+        return false;
     }
-    assert_eq!(rt; count, 243);
-    Ok(())
+    match (outcome(alloc, text), wanted.split_once(' ')) {
+        (Some((number, cause)), Some((line, name))) => {
+            line.parse::<u32>() == Ok(number) && name == name_of(cause)
+        }
+        _ => false,
+    }
+}
+
+/// Whether a row of `LINES` tells what comes of its line.
+fn is_row(alloc: Global, row: &str) -> bool {
+    let Some((wanted, line)) = row.split_once(": ") else {
+        return false;
+    };
+    match joined(alloc, FRONT, line.as_bytes()) {
+        Ok(text) => is_told(alloc, &text, wanted),
+        Err(_) => false,
+    }
+}
+
+/// The number of the first row of which something else comes.
+fn wrong_row(alloc: Global, rows: &str) -> Option<usize> {
+    for (at, row) in rows.lines().enumerate() {
+        if !is_row(alloc, row) {
+            return Some(at);
+        }
+    }
+    None
+}
+
+#[test]
+fn lines_behind_some_values_read_or_have_these_first_faults(rt: HostRuntime) {
+    assert!(&rt; LINES.lines().count() == 243);
+    let wrong = wrong_row(rt.alloc(), LINES);
+    assert!(rt; wrong.is_none(), "row {wrong:?}");
 }
 
 /// A text with every form of statement.
@@ -515,21 +572,68 @@ static FORMS: [(&str, Option<WireType>, &str); 29] = [
     ("", None, "Output { x: 18, to: One(Party(1)) }"),
 ];
 
-#[test]
-fn every_form_of_statement_reads(rt: HostRuntime) -> Result<(), Fail> {
-    assert!(rt; EVERY_FORM.len() <= MAX_FILE_LENGTH);
-    let circuit = read_mixed(rt.alloc(), EVERY_FORM)?;
-    assert_eq!(rt;
-        (circuit.parties(), circuit.len(), circuit.is_empty()),
-        (3, 29, false)
-    );
-    for at in 0..circuit.len() {
-        let form = circuit.form(at);
-        let shown = format!(in rt.alloc(); "{form:?}")?;
-        let seen = (circuit.name(at), circuit.wire(at), shown.as_str());
-        assert_eq!(rt; Some(&seen), FORMS.get(at as usize), "at {at}");
+fn circuit_of(alloc: Global, text: &[u8]) -> Option<Mixed> {
+    if text.len() > MAX_FILE_LENGTH {
+        return None;
     }
-    Ok(())
+    match read_mixed(alloc, text) {
+        Ok(circuit) => Some(circuit),
+        Err(_) => None,
+    }
+}
+
+fn is_form(alloc: Global, form: Form, text: &str) -> bool {
+    match format!(in alloc; "{form:?}") {
+        Ok(shown) => shown.as_str() == text,
+        Err(_) => false,
+    }
+}
+
+/// Whether a statement has this name, this sharing and this form.
+fn is_statement(
+    alloc: Global,
+    circuit: &Mixed,
+    at: usize,
+    name: &str,
+    wire: Option<WireType>,
+    form: &str,
+) -> bool {
+    if at >= circuit.len() as usize {
+        return false;
+    }
+    let at = at as u32;
+    circuit.name(at) == name && circuit.wire(at) == wire && is_form(alloc, circuit.form(at), form)
+}
+
+/// The number of the first statement that is another one.
+fn wrong_statement(
+    alloc: Global,
+    circuit: &Mixed,
+    rows: &[(&str, Option<WireType>, &str)],
+) -> Option<usize> {
+    for (at, (name, wire, form)) in rows.iter().enumerate() {
+        if !is_statement(alloc, circuit, at, name, *wire, form) {
+            return Some(at);
+        }
+    }
+    None
+}
+
+/// Whether a circuit of three parties has these statements.
+fn has_statements(alloc: Global, circuit: &Mixed, rows: &[(&str, Option<WireType>, &str)]) -> bool {
+    circuit.parties() == 3
+        && circuit.len() == 29
+        && !circuit.is_empty()
+        && wrong_statement(alloc, circuit, rows).is_none()
+}
+
+#[test]
+fn every_form_of_statement_reads(rt: HostRuntime) {
+    let is_read = match circuit_of(rt.alloc(), EVERY_FORM) {
+        Some(circuit) => has_statements(rt.alloc(), &circuit, &FORMS),
+        None => false,
+    };
+    assert!(rt; is_read);
 }
 
 /// The name, the party and the width of each input of the text with every form.
@@ -545,45 +649,79 @@ static OUTPUTS: [(&str, Receiver, u32); 2] = [
     ("ly", Receiver::One(Party(1)), 2),
 ];
 
+fn is_input(table: &InputTable, at: usize, name: &str, party: Party, width: u32) -> bool {
+    if at >= table.len() as usize {
+        return false;
+    }
+    let at = at as u32;
+    table.name(at) == name && table.party(at) == party && table.width(at) == width
+}
+
+fn are_inputs(table: &InputTable, rows: &[(&str, Party, u32)]) -> bool {
+    for (at, (name, party, width)) in rows.iter().enumerate() {
+        if !is_input(table, at, name, *party, *width) {
+            return false;
+        }
+    }
+    table.len() as usize == rows.len()
+}
+
+fn is_output(table: &OutputTable, at: usize, name: &str, to: Receiver, width: u32) -> bool {
+    if at >= table.len() as usize {
+        return false;
+    }
+    let at = at as u32;
+    table.name(at) == name && table.receiver(at) == to && table.width(at) == width
+}
+
+fn are_outputs(table: &OutputTable, rows: &[(&str, Receiver, u32)]) -> bool {
+    for (at, (name, to, width)) in rows.iter().enumerate() {
+        if !is_output(table, at, name, *to, *width) {
+            return false;
+        }
+    }
+    table.len() as usize == rows.len()
+}
+
+fn has_tables(alloc: Global, circuit: &Mixed) -> bool {
+    match (circuit.inputs(alloc), circuit.outputs(alloc)) {
+        (Ok(inputs), Ok(outputs)) => are_inputs(&inputs, &INPUTS)
+            && are_outputs(&outputs, &OUTPUTS),
+        _ => false,
+    }
+}
+
 #[test]
-fn inputs_and_outputs_stand_in_the_order_of_their_statements(rt: HostRuntime) -> Result<(), Fail> {
-    assert!(rt; EVERY_FORM.len() <= MAX_FILE_LENGTH);
-    let circuit = read_mixed(rt.alloc(), EVERY_FORM)?;
-    let inputs = circuit.inputs(rt.alloc())?;
-    assert_eq!(rt; inputs.len(), 3);
-    for at in 0..inputs.len() {
-        let seen = (inputs.name(at), inputs.party(at), inputs.width(at));
-        assert_eq!(rt; Some(&seen), INPUTS.get(at as usize), "at {at}");
-    }
-    let outputs = circuit.outputs(rt.alloc())?;
-    assert_eq!(rt; outputs.len(), 2);
-    for at in 0..outputs.len() {
-        let seen = (outputs.name(at), outputs.receiver(at), outputs.width(at));
-        assert_eq!(rt; Some(&seen), OUTPUTS.get(at as usize), "at {at}");
-    }
-    Ok(())
+fn inputs_and_outputs_stand_in_the_order_of_their_statements(rt: HostRuntime) {
+    let are_in_order = match circuit_of(rt.alloc(), EVERY_FORM) {
+        Some(circuit) => has_tables(rt.alloc(), &circuit),
+        None => false,
+    };
+    assert!(rt; are_in_order);
 }
 
 /// A text of one input and so many outputs.
-fn text_of_outputs(alloc: Global, outputs: u32) -> Result<Vec<u8>, NoMemory> {
-    let mut text = Vec::new(alloc);
-    text.extend_from_slice(b"mixed 1\nparties 2\nx = input 0 A\n")?;
+fn text_of_outputs(alloc: Global, outputs: u32) -> Result<Vec<u8>, AllocError> {
+    let mut text = Vec::from_slice(alloc, b"mixed 1\nparties 2\nx = input 0 A\n")?;
     for _ in 0..outputs {
         text.extend_from_slice(b"output x all\n")?;
     }
     Ok(text)
 }
 
+/// Whether one more statement behind a text is too much.
+fn is_full(alloc: Global, text: &[u8]) -> bool {
+    match joined(alloc, text, b"\noutput x all") {
+        Ok(more) => is_read(alloc, &more, 1_048_580, Some(CircuitCause::TooMany)),
+        Err(_) => false,
+    }
+}
+
 #[test]
-fn a_circuit_has_no_more_than_so_many_statements(rt: HostRuntime) -> Result<(), Fail> {
-    let mut text = text_of_outputs(rt.alloc(), MAX_STATEMENTS - 1)?;
-    assert!(rt; text.len() <= MAX_FILE_LENGTH);
-    assert_eq!(rt; outcome(rt.alloc(), &text)?, (1_048_576, None));
-    text.extend_from_slice(b"\noutput x all")?;
-    assert!(rt; text.len() <= MAX_FILE_LENGTH);
-    assert_eq!(rt;
-        outcome(rt.alloc(), &text)?,
-        (1_048_580, Some(CircuitCause::TooMany))
-    );
-    Ok(())
+fn a_circuit_has_no_more_than_so_many_statements(rt: HostRuntime) {
+    let is_limit = match text_of_outputs(rt.alloc(), MAX_STATEMENTS - 1) {
+        Ok(text) => is_read(rt.alloc(), &text, 1_048_576, None) && is_full(rt.alloc(), &text),
+        Err(_) => false,
+    };
+    assert!(rt; is_limit);
 }

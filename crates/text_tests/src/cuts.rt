@@ -4,7 +4,6 @@ use circuit_values::{OutputTable, Outputs, Receiver};
 use mot_base::{NoMemory, Party};
 use share_types::Bits;
 use std::alloc::Global;
-use std::test::Fail;
 
 /// A table of four outputs, to party 0, to all, to party 1 and to party 0, of which the last is wider than a
 /// word.
@@ -17,80 +16,167 @@ fn table(alloc: Global) -> Result<OutputTable, NoMemory> {
     Ok(outputs)
 }
 
-/// A party, or all, as text.
-fn shown(to: Receiver) -> &'static str {
-    match to {
-        Receiver::All => "all",
-        Receiver::One(Party(0)) => "0",
-        Receiver::One(_) => "1",
-    }
-}
-
-/// The outputs that vectors of these numbers and widths are cut into, each as its name, its receiver and its
-/// bits.
-fn cut_of(alloc: Global, party: Option<Party>, told: &[(u64, u8)]) -> Result<String, Fail> {
-    let table = table(alloc)?;
+/// Vectors of these numbers and widths.
+fn vectors(alloc: Global, told: &[(u64, u8)]) -> Option<Vec<Bits>> {
     let mut vectors = Vec::new(alloc);
     for (word, width) in told {
-        if let Some(vector) = Bits::new(*word, *width) {
-            vectors.push(vector)?;
-        }
+        let vector = Bits::new(*word, *width)?;
+        vectors.push(vector).ok()?;
     }
-    let mut text = String::new(alloc);
-    if !Outputs::can_cut(&table, party, &vectors) {
-        text.push_str("cannot be cut")?;
-        return Ok(text);
-    }
-    let outputs = Outputs::cut(alloc, &table, party, &vectors)?;
-    for at in 0..outputs.len() {
-        text.push_str(outputs.name(at))?;
-        text.push_str(" to ")?;
-        text.push_str(shown(outputs.receiver(at)))?;
-        text.push_str(": ")?;
-        for bit in outputs.bits(at) {
-            text.push(if *bit { '1' } else { '0' })?;
-        }
-        text.push(';')?;
-    }
-    Ok(text)
+    Some(vectors)
 }
 
-/// The party that is told, if it is one, what it is told, and the outputs with their bits, the least first.
-static CUTS: [(Option<Party>, &[(u64, u8)], &str); 9] = [
-    (
-        Some(Party(0)),
-        &[(5, 3), (9, 5), (0x8000000000000001, 64), (2, 2)],
-        "p to 0: 101;q to all: 10010;\
-         s to 0: 100000000000000000000000000000000000000000000000000000000000000101;",
-    ),
-    (
-        Some(Party(1)),
-        &[(9, 5), (2, 2)],
-        "q to all: 10010;r to 1: 01;",
-    ),
-    (Some(Party(1)), &[(41, 7)], "q to all: 10010;r to 1: 10;"),
-    (
-        Some(Party(1)),
-        &[(1, 1), (0, 1), (0, 1), (1, 1), (0, 1), (0, 1), (1, 1)],
-        "q to all: 10010;r to 1: 01;",
-    ),
-    (Some(Party(2)), &[(31, 5)], "q to all: 11111;"),
-    (
-        None,
-        &[(590, 10), (3, 64), (3, 2)],
-        "p to 0: 011;q to all: 10010;r to 1: 01;\
-         s to 0: 110000000000000000000000000000000000000000000000000000000000000011;",
-    ),
-    (Some(Party(2)), &[], "cannot be cut"),
-    (Some(Party(2)), &[(9, 4)], "cannot be cut"),
-    (Some(Party(2)), &[(9, 5), (1, 1)], "cannot be cut"),
+/// Whether a text shows some bits, the least first.
+fn are_shown(bits: &[bool], text: &str) -> bool {
+    for (bit, digit) in bits.iter().zip(text.bytes()) {
+        if digit != if *bit { b'1' } else { b'0' } {
+            return false;
+        }
+    }
+    bits.len() == text.len()
+}
+
+/// Whether an output has this name, this receiver and these bits.
+fn is_output(outputs: &Outputs, at: usize, name: &str, to: Receiver, bits: &str) -> bool {
+    if at >= outputs.len() as usize {
+        return false;
+    }
+    let at = at as u32;
+    outputs.name(at) == name && outputs.receiver(at) == to && are_shown(outputs.bits(at), bits)
+}
+
+/// Whether these are the outputs, each with its name, its receiver and its bits.
+fn are_outputs(outputs: &Outputs, rows: &[(&str, Receiver, &str)]) -> bool {
+    for (at, (name, to, bits)) in rows.iter().enumerate() {
+        if !is_output(outputs, at, name, *to, bits) {
+            return false;
+        }
+    }
+    outputs.len() as usize == rows.len()
+}
+
+/// Whether the vectors are cut into these outputs of `table`, or cannot be cut where there are none.
+fn are_cut(
+    alloc: Global,
+    party: Option<Party>,
+    vectors: &[Bits],
+    rows: Option<&[(&str, Receiver, &str)]>,
+) -> bool {
+    let Ok(table) = table(alloc) else {
+        return false;
+    };
+    let Some(rows) = rows else {
+        return !Outputs::can_cut(&table, party, vectors);
+    };
+    if !Outputs::can_cut(&table, party, vectors) {
+        return false;
+    }
+    match Outputs::cut(alloc, &table, party, vectors) {
+        Ok(outputs) => are_outputs(&outputs, rows),
+        Err(_) => false,
+    }
+}
+
+/// What a party is told, if it is one, and the outputs with their bits, the least first.
+struct Cut {
+    party: Option<Party>,
+    told: &'static [(u64, u8)],
+    outputs: Option<&'static [(&'static str, Receiver, &'static str)]>,
+}
+
+static CUTS: [Cut; 9] = [
+    Cut {
+        party: Some(Party(0)),
+        told: &[(5, 3), (9, 5), (0x8000000000000001, 64), (2, 2)],
+        outputs: Some(&[
+            ("p", Receiver::One(Party(0)), "101"),
+            ("q", Receiver::All, "10010"),
+            (
+                "s",
+                Receiver::One(Party(0)),
+                "100000000000000000000000000000000000000000000000000000000000000101",
+            ),
+        ]),
+    },
+    Cut {
+        party: Some(Party(1)),
+        told: &[(9, 5), (2, 2)],
+        outputs: Some(&[
+            ("q", Receiver::All, "10010"),
+            ("r", Receiver::One(Party(1)), "01"),
+        ]),
+    },
+    Cut {
+        party: Some(Party(1)),
+        told: &[(41, 7)],
+        outputs: Some(&[
+            ("q", Receiver::All, "10010"),
+            ("r", Receiver::One(Party(1)), "10"),
+        ]),
+    },
+    Cut {
+        party: Some(Party(1)),
+        told: &[(1, 1), (0, 1), (0, 1), (1, 1), (0, 1), (0, 1), (1, 1)],
+        outputs: Some(&[
+            ("q", Receiver::All, "10010"),
+            ("r", Receiver::One(Party(1)), "01"),
+        ]),
+    },
+    Cut {
+        party: Some(Party(2)),
+        told: &[(31, 5)],
+        outputs: Some(&[("q", Receiver::All, "11111")]),
+    },
+    Cut {
+        party: None,
+        told: &[(590, 10), (3, 64), (3, 2)],
+        outputs: Some(&[
+            ("p", Receiver::One(Party(0)), "011"),
+            ("q", Receiver::All, "10010"),
+            ("r", Receiver::One(Party(1)), "01"),
+            (
+                "s",
+                Receiver::One(Party(0)),
+                "110000000000000000000000000000000000000000000000000000000000000011",
+            ),
+        ]),
+    },
+    Cut {
+        party: Some(Party(2)),
+        told: &[],
+        outputs: None,
+    },
+    Cut {
+        party: Some(Party(2)),
+        told: &[(9, 4)],
+        outputs: None,
+    },
+    Cut {
+        party: Some(Party(2)),
+        told: &[(9, 5), (1, 1)],
+        outputs: None,
+    },
 ];
 
-#[test]
-fn told_bits_are_cut_into_these_outputs(rt: HostRuntime) -> Result<(), Fail> {
-    for (party, told, wanted) in &CUTS {
-        let seen = cut_of(rt.alloc(), *party, told)?;
-        assert_eq!(rt; seen.as_str(), *wanted, "{told:?}");
+fn is_cut(alloc: Global, row: &Cut) -> bool {
+    match vectors(alloc, row.told) {
+        Some(vectors) => are_cut(alloc, row.party, &vectors, row.outputs),
+        None => false,
     }
-    Ok(())
+}
+
+/// The number of the first row that is cut otherwise.
+fn wrong_cut(alloc: Global, rows: &[Cut]) -> Option<usize> {
+    for (at, row) in rows.iter().enumerate() {
+        if !is_cut(alloc, row) {
+            return Some(at);
+        }
+    }
+    None
+}
+
+#[test]
+fn told_bits_are_cut_into_these_outputs(rt: HostRuntime) {
+    let wrong = wrong_cut(rt.alloc(), &CUTS);
+    assert!(rt; wrong.is_none(), "row {wrong:?}");
 }

@@ -20,20 +20,38 @@ fn table(alloc: Global) -> Result<InputTable, NoMemory>
     Ok(inputs)
 }
 
-/// The first line that shows a cause, with that cause, if one does.
-fn fault_of(
+/// Whether a text reads, or else has this cause in that line first.
+fn is_read(
     alloc: Global,
+    inputs: &InputTable,
     text: &[u8],
     owner: Option<Party>,
-) -> Result<Option<(u32, ValuesCause)>, NoMemory>
-    requires { length text.now ≤ most_file_bytes }
+    fault: Option<(u32, ValuesCause)>,
+) -> bool
+    requires text { length text.now ≤ most_file_bytes }
+    requires inputs { AreNamedApart inputs.now }
 {
-    let inputs = table(alloc)?;
-    match read_values(alloc, text, &inputs, owner) {
-        Ok(_) => Ok(None),
-        Err(ValuesError::At { line, cause }) => Ok(Some((line, cause))),
-        Err(ValuesError::NoMemory) => Err(NoMemory),
+    match read_values(alloc, text, inputs, owner) {
+        Ok(_) => fault.is_none(),
+        Err(ValuesError::At { line, cause }) => fault == Some((line, cause)),
+        Err(ValuesError::NoMemory) => false,
     }
+}
+
+/// The number of the first text of which something else comes.
+fn wrong_text(
+    alloc: Global,
+    rows: &[(&[u8], Option<Party>, Option<(u32, ValuesCause)>)],
+) -> Option<usize> {
+    let Ok(inputs) = table(alloc) else {
+        return Some(0);
+    };
+    for (at, (text, owner, fault)) in rows.iter().enumerate() {
+        if text.len() > MAX_FILE_LENGTH || !is_read(alloc, &inputs, text, *owner, *fault) {
+            return Some(at);
+        }
+    }
+    None
 }
 
 /// The words of `x` and `y`, and the low and the high word of `z`.
@@ -49,9 +67,11 @@ fn words_of(alloc: Global, text: &[u8]) -> Result<(u64, u64, u64, u64), Fail>
     Ok((x.word, y.word, low.word, high.word))
 }
 
-/// Texts for the inputs of `table`, the party whose inputs are asked for if it is one, and the first line that shows a
-/// cause with that cause, if one does.
-static TEXTS: [(&[u8], Option<Party>, Option<(u32, ValuesCause)>); 72] = [
+// In each table: a text for the inputs of `table`, the party whose inputs are asked for if it is one, and the first
+// line that shows a cause with that cause, if one does.
+
+/// Texts that read, lack a value, or have one that is too wide.
+static NUMBERS: [(&[u8], Option<Party>, Option<(u32, ValuesCause)>); 21] = [
     (b"x = 6\ny = 7\nz = 8\n", None, None),
     (b"z = 8\ny = 7\nx = 6", None, None),
     (
@@ -121,6 +141,16 @@ static TEXTS: [(&[u8], Option<Party>, Option<(u32, ValuesCause)>); 72] = [
         Some((3, ValuesCause::TooWide)),
     ),
     (b"y = 0x10\n", None, Some((1, ValuesCause::TooWide))),
+];
+
+#[test]
+fn values_stand_once_and_fit(rt: HostRuntime) {
+    let wrong = wrong_text(rt.alloc(), &NUMBERS);
+    assert!(rt; wrong.is_none(), "text {wrong:?}");
+}
+
+/// Lines whose words say no value.
+static WORDS_OF_LINES: [(&[u8], Option<Party>, Option<(u32, ValuesCause)>); 21] = [
     (b"x 6", None, Some((1, ValuesCause::Word))),
     (b"x = 6 7", None, Some((1, ValuesCause::Word))),
     (b"x == 6", None, Some((1, ValuesCause::Word))),
@@ -142,6 +172,16 @@ static TEXTS: [(&[u8], Option<Party>, Option<(u32, ValuesCause)>); 72] = [
     (b"x = 6 # \xc3\xa9", None, Some((1, ValuesCause::Word))),
     (b"x = 6 \x7f", None, Some((1, ValuesCause::Word))),
     (b"x = 6\x0b", None, Some((1, ValuesCause::Word))),
+];
+
+#[test]
+fn lines_of_other_words_are_named(rt: HostRuntime) {
+    let wrong = wrong_text(rt.alloc(), &WORDS_OF_LINES);
+    assert!(rt; wrong.is_none(), "text {wrong:?}");
+}
+
+/// Names that are unknown or stand twice.
+static NAMES: [(&[u8], Option<Party>, Option<(u32, ValuesCause)>); 16] = [
     (b"q = 6", None, Some((1, ValuesCause::NameUnknown))),
     (b"X = 6", None, Some((1, ValuesCause::NameUnknown))),
     (b"x1 = 6", None, Some((1, ValuesCause::NameUnknown))),
@@ -178,6 +218,16 @@ static TEXTS: [(&[u8], Option<Party>, Option<(u32, ValuesCause)>); 72] = [
         None,
         Some((4, ValuesCause::Twice)),
     ),
+];
+
+#[test]
+fn names_are_known_and_stand_once(rt: HostRuntime) {
+    let wrong = wrong_text(rt.alloc(), &NAMES);
+    assert!(rt; wrong.is_none(), "text {wrong:?}");
+}
+
+/// Texts of one party.
+static OF_PARTIES: [(&[u8], Option<Party>, Option<(u32, ValuesCause)>); 14] = [
     (b"x = 6\nz = 8\n", Some(Party(0)), None),
     (
         b"x = 6\ny = 7\nz = 8\n",
@@ -213,6 +263,12 @@ static TEXTS: [(&[u8], Option<Party>, Option<(u32, ValuesCause)>); 72] = [
     ),
     (b"x", Some(Party(2)), Some((1, ValuesCause::Word))),
 ];
+
+#[test]
+fn a_party_gives_its_own_values(rt: HostRuntime) {
+    let wrong = wrong_text(rt.alloc(), &OF_PARTIES);
+    assert!(rt; wrong.is_none(), "text {wrong:?}");
+}
 
 /// Texts for all inputs, and the words of `x` and `y`, and the low and the high word of `z`.
 static WORDS: [(&[u8], u64, u64, u64, u64); 8] = [
@@ -262,25 +318,23 @@ static WORDS: [(&[u8], u64, u64, u64, u64); 8] = [
     ),
 ];
 
-#[test]
-fn texts_read_or_have_these_first_faults(rt: HostRuntime) -> Result<(), Fail> {
-    for (text, owner, fault) in &TEXTS {
-        assert!(rt; text.len() <= MAX_FILE_LENGTH);
-        let seen = fault_of(rt.alloc(), text, *owner)?;
-        assert_eq!(rt; seen, *fault, "{text:?}");
+fn are_words(alloc: Global, text: &[u8], words: (u64, u64, u64, u64)) -> Result<bool, Fail> {
+    Ok(text.len() <= MAX_FILE_LENGTH && words_of(alloc, text)? == words)
+}
+
+/// The number of the first text with other words.
+fn wrong_words(alloc: Global, rows: &[(&[u8], u64, u64, u64, u64)]) -> Result<Option<usize>, Fail> {
+    for (at, (text, x, y, low, high)) in rows.iter().enumerate() {
+        if !are_words(alloc, text, (*x, *y, *low, *high))? {
+            return Ok(Some(at));
+        }
     }
-    Ok(())
+    Ok(None)
 }
 
 #[test]
 fn literals_give_these_bits(rt: HostRuntime) -> Result<(), Fail> {
-    for (text, x, y, low, high) in &WORDS {
-        assert!(rt; text.len() <= MAX_FILE_LENGTH);
-        assert_eq!(rt;
-            words_of(rt.alloc(), text)?,
-            (*x, *y, *low, *high),
-            "{text:?}"
-        );
-    }
+    let wrong = wrong_words(rt.alloc(), &WORDS)?;
+    assert!(rt; wrong.is_none(), "text {wrong:?}");
     Ok(())
 }
