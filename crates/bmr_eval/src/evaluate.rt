@@ -86,10 +86,9 @@ impl Evaluator<'_> {
             ≡ result_key n (entries_in n self.now.table.now) self.now.gate (online_seen n self.now.u.now) (online_seen n self.now.v.now) i j }
     {
         let owners = usize::from(self.table.parties);
-        let r = row(
-            is_set(self.u.masked.word, i as u8),
-            is_set(self.v.masked.word, i as u8),
-        );
+        let s = is_set(self.u.masked.word, i as u8);
+        let t = is_set(self.v.masked.word, i as u8);
+        let r = row(s, t);
         let mut key = key_by(
             self.table.rows.as_slice(),
             owners,
