@@ -3,3 +3,4 @@ pub mod Sums
 pub mod Masks
 pub mod KeyLists
 pub mod Parts
+pub mod Payloads

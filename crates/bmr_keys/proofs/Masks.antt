@@ -82,7 +82,7 @@ behind-outside w f g i h = rw (le-ltb i w h) refl
 join-nothing : (w : ℕ) → join w 0 0 ≡ 0
 join-nothing w = let none = zero-mod (2 ^ w) in omega arith
 
-xor-join : (n w : ℕ) (f g : ℕ → ℕ) → xor_to n (λ p. join w (f p) (g p)) ≡ join w (xor_to n f) (xor_to n g)
+pub xor-join : (n w : ℕ) (f g : ℕ → ℕ) → xor_to n (λ p. join w (f p) (g p)) ≡ join w (xor_to n f) (xor_to n g)
 xor-join zero w f g = sym (join-nothing w)
 xor-join (suc n) w f g =
     ap (λ m. m ⊕ join w (f n) (g n)) (xor-join n w f g) ∙ sym (join-xor w (xor_to n f) (f n) (xor_to n g) (g n))

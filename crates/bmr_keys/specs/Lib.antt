@@ -1,4 +1,5 @@
 pub mod Hiding
 pub mod Laws
 pub mod Mask
+pub mod Payload
 pub mod Wires

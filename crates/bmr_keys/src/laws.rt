@@ -2,6 +2,7 @@
 //! function that does nothing.
 
 ghost use Rattle.bmr_keys.specs.Laws.{FreshRecombine, ZeroKeysAreEven, ConstantRecombines, XorRecombines, FlipRecombines, SliceRecombines, JoinRecombines, UsesAreApart};
+ghost use Rattle.bmr_keys.specs.Payload.{KeysHaveBytes, KeysReadBack};
 
 /// Honest key records and zero keys of tapes give parts of one fresh mask.
 pub fn fresh_recombine()
@@ -36,6 +37,12 @@ pub fn slice_recombines()
 /// The parties' `MaskPart::join` gives parts of the join of both masks.
 pub fn join_recombines()
     ensures { JoinRecombines }
+{}
+
+/// Keys that `key_payload` writes are read back by `key_in`.
+pub fn keys_read_back()
+    ensures length { KeysHaveBytes }
+    ensures keys { KeysReadBack }
 {}
 
 /// Two different uses of a tape, zero keys and share words, have no place in common.
