@@ -2,14 +2,13 @@
 
 ghost use Rattle.local_run.specs.Job.{IsJob};
 
-use crate::conditions::is_job;
-use crate::jobs::{ALONE, Circuit, Parts, job_of, lowered, parts_of};
+use crate::jobs::{ALONE, Circuit, Parts, ready};
 use crate::seat::Seat;
 use dealer_files::DealerPart;
 use gate_tasks::{GateTask, Outs, Value};
 use local_engine::LocalJob;
 use mot_base::Party;
-use std::alloc::Global;
+use std::alloc::{AllocError, Global};
 use std::process::Abort;
 use std::test::Fail;
 
@@ -115,7 +114,7 @@ fn players<'r>(
 }
 
 /// The tasks of so many gates.
-fn tasks(alloc: Global, gates: u32) -> Result<Vec<GateTask>, Fail> {
+fn tasks(alloc: Global, gates: u32) -> Result<Vec<GateTask>, AllocError> {
     let mut tasks = Vec::new(alloc);
     for gate in 0..gates {
         tasks.push(GateTask::new(gate))?;
@@ -156,7 +155,7 @@ fn poll_gate(
 
 /// Polls all tasks of all parties, gate by gate.
 fn poll_all(rt: &impl Abort, alloc: Global, players: &mut [Player]) -> Result<(), Fail> {
-    for gate in 0..GIVEN.len() + TOLD.len() {
+    for gate in 0..24 {
         poll_gate(rt, alloc, players, gate)?;
     }
     Ok(())
@@ -193,51 +192,65 @@ fn is_told(player: &Player, gate: u32, told: Option<u64>) -> bool {
     }
 }
 
-/// Runs all parties.
-fn run_all(rt: &impl Abort, alloc: Global, job: &LocalJob, parts: &[DealerPart]) -> Result<(), Fail>
+/// Runs all parties, and gives the first gate whose value is another one.
+fn wrong_gate(
+    rt: &impl Abort,
+    alloc: Global,
+    job: &LocalJob,
+    parts: &[DealerPart],
+) -> Result<Option<u32>, Fail>
     requires { IsJob job.now.plan job.now.owns.items parts.now }
 {
     let mut players = players(alloc, job, parts)?;
     run(rt, alloc, &mut players)?;
-    check_given(rt, &players);
-    check_told(rt, &players);
-    Ok(())
+    Ok(gate_not_given(&players).or(gate_not_told(&players)))
 }
 
-/// That the shares of each gate recombine to what it gives.
-fn check_given(rt: &impl Abort, players: &[Player]) {
-    for (gate, number) in GIVEN.iter().enumerate() {
-        assert!(rt; recombined(players, gate as u32) == Some(*number), "{gate}");
+/// The first gate whose shares do not recombine to what it gives.
+fn gate_not_given(players: &[Player]) -> Option<u32> {
+    for (at, number) in GIVEN.iter().enumerate() {
+        let gate = at as u32;
+        if recombined(players, gate) != Some(*number) {
+            return Some(gate);
+        }
     }
+    None
 }
 
-/// That the parties are told what the output gates tell.
-fn check_told(rt: &impl Abort, players: &[Player]) {
+/// The first output gate, behind those, of which a party is told something else.
+fn gate_not_told(players: &[Player]) -> Option<u32> {
     for (at, (to, number)) in TOLD.iter().enumerate() {
-        check_output(rt, players, (GIVEN.len() + at) as u32, *to, *number);
+        let gate = (18 + at) as u32;
+        if !tells(players, gate, *to, *number) {
+            return Some(gate);
+        }
     }
+    None
 }
 
-/// That an output gate tells all parties, or one alone.
-fn check_output(rt: &impl Abort, players: &[Player], gate: u32, to: Option<u8>, number: u64) {
+/// Whether an output gate tells all parties, or one alone.
+fn tells(players: &[Player], gate: u32, to: Option<u8>, number: u64) -> bool {
     for (party, player) in players.iter().enumerate() {
         let is_meant = match to {
             Some(one) => usize::from(one) == party,
             None => true,
         };
         let told = if is_meant { Some(number) } else { None };
-        assert!(rt; is_told(player, gate, told), "{gate} at {party}");
+        if !is_told(player, gate, told) {
+            return false;
+        }
     }
+    true
 }
 
 #[test]
 fn payloads_that_are_handed_over_give_what_the_circuit_computes(
     rt: HostRuntime,
 ) -> Result<(), Fail> {
-    let alloc = rt.alloc();
-    let (plan, inputs) = lowered(&rt, alloc, &CIRCUIT)?;
-    let parts = parts_of(alloc, plan.parties(), &Parts::Drawn(2, 20))?;
-    let job = job_of(&rt, alloc, plan, &inputs, VALUES, ALONE)?;
-    assert!(rt; is_job(&job, &parts, &inputs));
-    run_all(&rt, alloc, &job, &parts)
+    let Some((job, parts)) = ready(rt.alloc(), &CIRCUIT, VALUES, &Parts::Drawn(2, 20), ALONE) else {
+        panic!(rt; "no run");
+    };
+    let wrong = wrong_gate(&rt, rt.alloc(), &job, &parts)?;
+    assert!(rt; wrong.is_none(), "gate {wrong:?}");
+    Ok(())
 }

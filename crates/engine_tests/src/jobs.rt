@@ -1,24 +1,24 @@
 //! Runs of circuits that are given as text.
 
-ghost use Rattle.std.specs.Prelude.{◌≡◌, ◌≤◌, ℕ, length, slice_get, Some, None, IfOk};
+ghost use Rattle.std.specs.Prelude.{◌≡◌, ◌≤◌, ℕ, length, slice_get, Some, None, IfOk, IfSome};
 ghost use Rattle.mot_base.specs.Limits.{most_file_bytes, least_parties, most_parties};
 ghost use Rattle.circuit_tables.specs.Table.{AreNamedApart};
 ghost use Rattle.circuit_tables.specs.Values.{HaveWidths};
 ghost use Rattle.gate_tasks.specs.declared.own.Own.{Own};
+ghost use Rattle.local_engine.specs.Job.{IsJob};
 
-use bristol_reader::read_bristol;
-use circuit_values::{InputTable, read_values};
+use crate::conditions::is_job;
+use bristol_reader::{Bristol, read_bristol};
+use circuit_values::{InputTable, ValuesError, read_values};
 use dealer_files::{DealerPart, read_dealer};
 use dealer_maker::deal;
 use gate_plan::{Plan, lower_bristol, lower_mixed};
 use gate_tasks::Own;
 use local_engine::LocalJob;
-use mixed_circuit::read_mixed;
+use mixed_circuit::{Mixed, read_mixed};
 use mot_base::{MAX_FILE_LENGTH, Party, Seed, derive};
 use share_types::{Needs, Sharing};
 use std::alloc::Global;
-use std::process::Abort;
-use std::test::Fail;
 
 /// The seed of which all seeds of a run are made.
 static ZEROS: Seed = Seed([0; 32]);
@@ -49,31 +49,60 @@ pub(crate) const ALONE: Place = Place {
 };
 
 /// The plan of a circuit, and the table of its inputs.
-pub(crate) fn lowered(
-    rt: &impl Abort,
-    alloc: Global,
-    circuit: &Circuit,
-) -> Result<(Plan, InputTable), Fail>
-    ensures { IfOk result (λ made. AreNamedApart made.1) }
+fn lowered(alloc: Global, circuit: &Circuit) -> Option<(Plan, InputTable)>
+    ensures { IfSome result (λ made. AreNamedApart made.1) }
 {
     match circuit {
-        Circuit::Mixed(text) => {
-            assert!(rt; text.len() <= MAX_FILE_LENGTH);
-            let circuit = read_mixed(alloc, text)?;
-            let plan = lower_mixed(alloc, &circuit)?;
-            Ok((plan, circuit.inputs(alloc)?))
-        }
-        Circuit::Bristol(text) => {
-            assert!(rt; text.len() <= MAX_FILE_LENGTH);
-            let circuit = read_bristol(alloc, text)?;
-            let plan = lower_bristol(alloc, &circuit, 2, Sharing::B)?;
-            Ok((plan, circuit.inputs(alloc, 2)?))
-        }
+        Circuit::Mixed(text) => lowered_mixed_text(alloc, text),
+        Circuit::Bristol(text) => lowered_bristol_text(alloc, text),
+    }
+}
+
+fn lowered_mixed_text(alloc: Global, text: &[u8]) -> Option<(Plan, InputTable)>
+    ensures { IfSome result (λ made. AreNamedApart made.1) }
+{
+    if text.len() > MAX_FILE_LENGTH {
+        return None;
+    }
+    match read_mixed(alloc, text) {
+        Ok(circuit) => lowered_mixed(alloc, &circuit),
+        Err(_) => None,
+    }
+}
+
+fn lowered_mixed(alloc: Global, circuit: &Mixed) -> Option<(Plan, InputTable)>
+    ensures { IfSome result (λ made. AreNamedApart made.1) }
+{
+    match (lower_mixed(alloc, circuit), circuit.inputs(alloc)) {
+        (Ok(plan), Ok(inputs)) => Some((plan, inputs)),
+        _ => None,
+    }
+}
+
+fn lowered_bristol_text(alloc: Global, text: &[u8]) -> Option<(Plan, InputTable)>
+    ensures { IfSome result (λ made. AreNamedApart made.1) }
+{
+    if text.len() > MAX_FILE_LENGTH {
+        return None;
+    }
+    match read_bristol(alloc, text) {
+        Ok(circuit) => lowered_bristol(alloc, &circuit),
+        Err(_) => None,
+    }
+}
+
+fn lowered_bristol(alloc: Global, circuit: &Bristol) -> Option<(Plan, InputTable)>
+    ensures { IfSome result (λ made. AreNamedApart made.1) }
+{
+    let lowered = lower_bristol(alloc, circuit, 2, Sharing::B);
+    match (lowered, circuit.inputs(alloc, 2)) {
+        (Ok(plan), Ok(inputs)) => Some((plan, inputs)),
+        _ => None,
     }
 }
 
 /// The parts of a deal for so many parties.
-pub(crate) fn parts_of(alloc: Global, parties: u8, parts: &Parts) -> Result<Vec<DealerPart>, Fail>
+fn parts_of(alloc: Global, parties: u8, parts: &Parts) -> Option<Vec<DealerPart>>
     requires some { least_parties ≤ parties }
     requires most { parties ≤ most_parties }
 {
@@ -85,38 +114,105 @@ pub(crate) fn parts_of(alloc: Global, parties: u8, parts: &Parts) -> Result<Vec<
                 shared: 0,
                 key: 0,
             };
-            Ok(deal(alloc, parties, &derive(&ZEROS, 255), &counts)?)
+            deal(alloc, parties, &derive(&ZEROS, 255), &counts).ok()
         }
         Parts::Files(first, second) => read_parts(alloc, &[*first, *second]),
     }
 }
 
 /// The parts in files, which are given in hexadecimal digits.
-fn read_parts(alloc: Global, texts: &[&str]) -> Result<Vec<DealerPart>, Fail> {
+fn read_parts(alloc: Global, texts: &[&str]) -> Option<Vec<DealerPart>> {
     let mut parts = Vec::new(alloc);
     for text in texts {
-        let bytes = hex::decode(alloc, text)?;
-        parts.push(read_dealer(alloc, bytes.as_slice())?)?;
+        if !is_part_pushed(alloc, &mut parts, text) {
+            return None;
+        }
     }
-    Ok(parts)
+    Some(parts)
+}
+
+/// Adds the part in a file, if it is one.
+fn is_part_pushed(alloc: Global, parts: &mut Vec<DealerPart>, text: &str) -> bool {
+    match hex::decode(alloc, text) {
+        Ok(bytes) => match read_dealer(alloc, bytes.as_slice()) {
+            Ok(part) => parts.push(part).is_ok(),
+            Err(_) => false,
+        },
+        Err(_) => false,
+    }
+}
+
+/// A run that has all that its plan asks for, with the parts of a deal.
+pub(crate) fn ready(
+    alloc: Global,
+    circuit: &Circuit,
+    values: &[u8],
+    parts: &Parts,
+    place: Place,
+) -> Option<(LocalJob, Vec<DealerPart>)>
+    ensures { IfSome result (λ made. IsJob made.0.plan made.0.owns.items made.1.items) }
+{
+    match lowered(alloc, circuit) {
+        Some((plan, inputs)) => ready_plan(alloc, plan, &inputs, values, parts, place),
+        None => None,
+    }
+}
+
+/// The same of a plan, on the values of a text.
+fn ready_plan(
+    alloc: Global,
+    plan: Plan,
+    inputs: &InputTable,
+    values: &[u8],
+    parts: &Parts,
+    place: Place,
+) -> Option<(LocalJob, Vec<DealerPart>)>
+    requires { AreNamedApart inputs.now }
+    ensures { IfSome result (λ made. IsJob made.0.plan made.0.owns.items made.1.items) }
+{
+    let parts = parts_of(alloc, plan.parties(), parts);
+    match (job_of(alloc, plan, inputs, values, place), parts) {
+        (Some(job), Some(parts)) => ready_job(job, parts, inputs),
+        _ => None,
+    }
+}
+
+/// The same of a run whose values are those of these inputs.
+fn ready_job(
+    job: LocalJob,
+    parts: Vec<DealerPart>,
+    inputs: &InputTable,
+) -> Option<(LocalJob, Vec<DealerPart>)>
+    requires { (p : ℕ) (own : Own) →
+        slice_get job.owns.items p ≡ Some own → HaveWidths None inputs.now own.inputs }
+    ensures { IfSome result (λ made. IsJob made.0.plan made.0.owns.items made.1.items) }
+{
+    if is_job(&job, &parts, inputs) {
+        Some((job, parts))
+    } else {
+        None
+    }
 }
 
 /// The run of a plan on the values of a text.
-pub(crate) fn job_of(
-    rt: &impl Abort,
+fn job_of(
     alloc: Global,
     plan: Plan,
     inputs: &InputTable,
     values: &[u8],
     place: Place,
-) -> Result<LocalJob, Fail>
+) -> Option<LocalJob>
     requires { AreNamedApart inputs.now }
-    ensures { IfOk result (λ job. (p : ℕ) (own : Own) →
+    ensures { IfSome result (λ job. (p : ℕ) (own : Own) →
         slice_get job.owns.items p ≡ Some own → HaveWidths None inputs.now own.inputs) }
 {
-    assert!(rt; values.len() <= MAX_FILE_LENGTH);
-    let owns = owns_of(alloc, plan.parties(), inputs, values, place)?;
-    Ok(LocalJob { plan, owns })
+    if values.len() > MAX_FILE_LENGTH {
+        return None;
+    }
+    match owns_of(alloc, plan.parties(), inputs, values, place) {
+        Ok(owns) => Some(LocalJob { plan, owns }),
+        Err(_) => None,
+    }
 }
 
 /// What each party brings, of which all know all values.
@@ -126,7 +222,7 @@ fn owns_of(
     inputs: &InputTable,
     values: &[u8],
     place: Place,
-) -> Result<Vec<Own>, Fail>
+) -> Result<Vec<Own>, ValuesError>
     requires apart { AreNamedApart inputs.now }
     requires size { length values.now ≤ most_file_bytes }
     ensures { IfOk result (λ owns. (p : ℕ) (own : Own) →
@@ -147,7 +243,7 @@ fn own_of(
     inputs: &InputTable,
     values: &[u8],
     place: Place,
-) -> Result<Own, Fail>
+) -> Result<Own, ValuesError>
     requires apart { AreNamedApart inputs.now }
     requires size { length values.now ≤ most_file_bytes }
     ensures { IfOk result (λ own. HaveWidths None inputs.now own.inputs) }

@@ -4,15 +4,13 @@ ghost use Rattle.std.specs.Prelude.{◌<◌, length};
 ghost use Rattle.gate_tasks.specs.Stage.{AreOperands};
 ghost use Rattle.local_run.specs.Job.{IsJob};
 
-use crate::conditions::{are_operands, is_job};
-use crate::jobs::{ALONE, Circuit, Parts, job_of, lowered, parts_of};
+use crate::conditions::are_operands;
+use crate::jobs::{ALONE, Circuit, Parts, ready};
 use dealer_files::DealerPart;
-use gate_tasks::{StageEnv, StageOut, Value, run_stage};
+use gate_tasks::{Out, StageEnv, StageOut, Value, run_stage};
 use local_engine::LocalJob;
 use mot_base::{NoMemory, Party};
-use std::alloc::Global;
-use std::process::Abort;
-use std::test::Fail;
+use std::alloc::{AllocError, Global};
 
 /// The product of 6 and 7.
 static PRODUCT: Circuit = Circuit::Mixed(
@@ -86,7 +84,7 @@ fn first_stage(
 }
 
 /// The operands of a row.
-fn wires_of(alloc: Global, row: &Row) -> Result<Vec<Value>, Fail> {
+fn wires_of(alloc: Global, row: &Row) -> Result<Vec<Value>, AllocError> {
     let mut wires = Vec::new(alloc);
     if let Some(share) = row.operand {
         wires.push(Value::A(share))?;
@@ -94,20 +92,25 @@ fn wires_of(alloc: Global, row: &Row) -> Result<Vec<Value>, Fail> {
     Ok(wires)
 }
 
-/// Whether a stage sent one message, that of a row, and gave the row's value.
-fn is_row(alloc: Global, row: &Row, given: &StageOut) -> Result<bool, Fail> {
-    let sent = hex::decode(alloc, row.sent)?;
-    let is_sent = match given.out.as_slice() {
+fn is_hex(alloc: Global, bytes: &[u8], text: &str) -> bool {
+    match hex::encode(alloc, bytes) {
+        Ok(seen) => seen.as_str() == text,
+        Err(_) => false,
+    }
+}
+
+/// Whether one message is sent, that of a row.
+fn is_sent(alloc: Global, row: &Row, outs: &[Out]) -> bool {
+    match outs {
         [out] => {
             out.to != Party(row.party)
                 && out.to.0 < 2
                 && out.gate == row.gate
                 && out.round == 0
-                && out.payload.bytes() == sent.as_slice()
+                && is_hex(alloc, out.payload.bytes(), row.sent)
         }
         _ => false,
-    };
-    Ok(is_sent && is_value(&given.value, row.value))
+    }
 }
 
 /// Whether a value is that share of a word, or there is none and none is wanted.
@@ -119,34 +122,50 @@ fn is_value(value: &Option<Value>, wanted: Option<u64>) -> bool {
     }
 }
 
-/// Runs the stage of a row.
-fn run_row(
-    rt: &impl Abort,
-    alloc: Global,
-    job: &LocalJob,
-    parts: &[DealerPart],
-    row: &Row,
-) -> Result<(), Fail>
+/// Whether the stage of a row, with its operands, sends and gives what the row says.
+fn is_run(alloc: Global, job: &LocalJob, parts: &[DealerPart], row: &Row, wires: &[Value]) -> bool
     requires { IsJob job.now.plan job.now.owns.items parts.now }
 {
-    let wires = wires_of(alloc, row)?;
-    assert!(rt; row.party < job.plan.parties());
-    assert!(rt; row.gate < job.plan.gates());
-    assert!(rt; are_operands(&job.plan, row.gate, &wires));
-    let given = first_stage(alloc, job, parts, usize::from(row.party), row.gate, &wires)?;
-    assert!(rt; is_row(alloc, row, &given)?, "{}", row.sent);
-    Ok(())
+    if row.party >= job.plan.parties()
+        || row.gate >= job.plan.gates()
+        || !are_operands(&job.plan, row.gate, wires)
+    {
+        return false;
+    }
+    match first_stage(alloc, job, parts, usize::from(row.party), row.gate, wires) {
+        Ok(given) => {
+            is_sent(alloc, row, given.out.as_slice()) && is_value(&given.value, row.value)
+        }
+        Err(_) => false,
+    }
+}
+
+fn is_row(alloc: Global, job: &LocalJob, parts: &[DealerPart], row: &Row) -> bool
+    requires { IsJob job.now.plan job.now.owns.items parts.now }
+{
+    match wires_of(alloc, row) {
+        Ok(wires) => is_run(alloc, job, parts, row, &wires),
+        Err(_) => false,
+    }
+}
+
+/// The number of the first row whose stage goes another way.
+fn wrong_row(alloc: Global, job: &LocalJob, parts: &[DealerPart], rows: &[Row]) -> Option<usize>
+    requires { IsJob job.now.plan job.now.owns.items parts.now }
+{
+    for (at, row) in rows.iter().enumerate() {
+        if !is_row(alloc, job, parts, row) {
+            return Some(at);
+        }
+    }
+    None
 }
 
 #[test]
-fn inputs_and_outputs_send_their_shares(rt: HostRuntime) -> Result<(), Fail> {
-    let alloc = rt.alloc();
-    let (plan, inputs) = lowered(&rt, alloc, &PRODUCT)?;
-    let parts = parts_of(alloc, plan.parties(), &Parts::Drawn(1, 0))?;
-    let job = job_of(&rt, alloc, plan, &inputs, VALUES, ALONE)?;
-    assert!(rt; is_job(&job, &parts, &inputs));
-    for row in &ROWS {
-        run_row(&rt, alloc, &job, &parts, row)?;
-    }
-    Ok(())
+fn inputs_and_outputs_send_their_shares(rt: HostRuntime) {
+    let wrong = match ready(rt.alloc(), &PRODUCT, VALUES, &Parts::Drawn(1, 0), ALONE) {
+        Some((job, parts)) => wrong_row(rt.alloc(), &job, &parts, &ROWS),
+        None => Some(0),
+    };
+    assert!(rt; wrong.is_none(), "row {wrong:?}");
 }

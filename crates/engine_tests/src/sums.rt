@@ -4,8 +4,7 @@ ghost use Rattle.std.specs.Prelude.{◌≡◌, true};
 ghost use Rattle.task_pool.specs.Meanings.{HasNoOutside};
 
 use mot_base::NoMemory;
-use std::alloc::Global;
-use std::test::Fail;
+use std::alloc::{AllocError, Global};
 use task_pool::{Work, run_turns};
 use turn_core::{Dag, Edge, OUTSIDE, TERMINAL};
 
@@ -54,7 +53,7 @@ fn is_inside(dag: &Dag) -> bool
 static DIAMOND: [(u32, u32); 6] = [(0, 1), (0, 2), (1, 3), (3, TERMINAL), (2, 3), (2, TERMINAL)];
 
 /// The edges of the diamond.
-fn diamond(alloc: Global) -> Result<Vec<Edge>, Fail> {
+fn diamond(alloc: Global) -> Result<Vec<Edge>, AllocError> {
     let mut edges = Vec::new(alloc);
     for (source, target) in &DIAMOND {
         edges.push(Edge {
@@ -65,14 +64,35 @@ fn diamond(alloc: Global) -> Result<Vec<Edge>, Fail> {
     Ok(edges)
 }
 
+/// The graph of the diamond.
+fn graph(alloc: Global) -> Option<Dag> {
+    match diamond(alloc) {
+        Ok(edges) => {
+            if edges.len() == 6 {
+                Dag::new(alloc, 4, edges).ok()
+            } else {
+                None
+            }
+        }
+        Err(_) => None,
+    }
+}
+
+fn gives(alloc: Global, work: &Sums, numbers: &[u64]) -> bool {
+    if !is_inside(&work.dag) {
+        return false;
+    }
+    match run_turns(alloc, &work.dag, work) {
+        Ok(ends) => ends.as_slice() == numbers,
+        Err(_) => false,
+    }
+}
+
 #[test]
-fn items_are_given_what_those_before_them_sent(rt: HostRuntime) -> Result<(), Fail> {
-    let edges = diamond(rt.alloc())?;
-    assert!(rt; edges.len() == 6);
-    let dag = Dag::new(rt.alloc(), 4, edges)?;
-    assert!(rt; is_inside(&dag));
-    let work = Sums { dag };
-    let ends = run_turns(rt.alloc(), &work.dag, &work)?;
-    assert_eq!(rt; ends.as_slice(), [11, 4].as_slice());
-    Ok(())
+fn items_are_given_what_those_before_them_sent(rt: HostRuntime) {
+    let is_given = match graph(rt.alloc()) {
+        Some(dag) => gives(rt.alloc(), &Sums { dag }, &[11, 4]),
+        None => false,
+    };
+    assert!(rt; is_given);
 }

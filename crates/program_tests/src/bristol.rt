@@ -1,6 +1,6 @@
 //! Circuits in Bristol Fashion, as the commands meet them.
-use crate::machine::{Machine, SEED};
-use std::test::Fail;
+use crate::machine::{Machine, Runs, SEED};
+use std::alloc::Global;
 
 const AND: &str = "1 3\n2 1 1\n1 1\n\n2 1 0 1 2 AND\n";
 
@@ -32,22 +32,30 @@ static OUTPUTS: [(&str, &str, &str); 9] = [
     ("0 1\n1 1\n0\n", "in0 = 1\n", ""),
 ];
 
-#[test]
-fn the_last_wires_are_printed(rt: HostRuntime) -> Result<(), Fail> {
-    for (circuit, values, printed) in &OUTPUTS {
-        let files = [("c", *circuit), ("v", *values)];
-        let machine = Machine::new(files.as_slice());
-        let by_bits = machine.run(
-            rt.alloc(),
-            &["plain", "c", "v", "--as", "B", "--parties", "2"],
-        )?;
-        assert_eq!(rt; by_bits.written(), printed.as_bytes(), "{circuit:?}");
-        assert_eq!(rt; by_bits.status, 0, "{circuit:?}");
-        let by_keys = machine.run_plain(rt.alloc(), &["--parties=8", "--as=Y", "c", "v"])?;
-        assert_eq!(rt; by_keys.written(), printed.as_bytes(), "{circuit:?}");
-        assert_eq!(rt; by_keys.status, 0, "{circuit:?}");
+/// Whether a circuit's outputs are printed so, whichever way its wires are shared.
+fn is_printed(alloc: Global, circuit: &str, values: &str, printed: &str) -> bool {
+    let files = [("c", circuit), ("v", values)];
+    let machine = Machine::new(&files);
+    let by_bits = ["plain", "c", "v", "--as", "B", "--parties", "2"];
+    let by_keys = ["--parties=8", "--as=Y", "c", "v"];
+    machine.prints(alloc, Runs::Program, &by_bits, printed, 0)
+        && machine.prints(alloc, Runs::Plain, &by_keys, printed, 0)
+}
+
+/// The number of the first circuit whose outputs are printed otherwise.
+fn wrong_outputs(alloc: Global, rows: &[(&str, &str, &str)]) -> Option<usize> {
+    for (at, (circuit, values, printed)) in rows.iter().enumerate() {
+        if !is_printed(alloc, circuit, values, printed) {
+            return Some(at);
+        }
     }
-    Ok(())
+    None
+}
+
+#[test]
+fn the_last_wires_are_printed(rt: HostRuntime) {
+    let wrong = wrong_outputs(rt.alloc(), &OUTPUTS);
+    assert!(rt; wrong.is_none(), "circuit {wrong:?}");
 }
 
 /// Circuits, how many parties, values, and what `local` prints of all of them.
@@ -79,16 +87,31 @@ static SHARED: [(&str, &str, &str, &str); 3] = [
     ),
 ];
 
-#[test]
-fn all_parties_share_the_wires_by_xor(rt: HostRuntime) -> Result<(), Fail> {
-    for (circuit, parties, values, printed) in &SHARED {
-        let files = [("c", *circuit), ("v", *values)];
-        let words = ["local", "c", "v", SEED, "--as", "B", "--parties", *parties];
-        let end = Machine::new(files.as_slice()).run(rt.alloc(), &words)?;
-        assert_eq!(rt; end.written(), printed.as_bytes(), "{circuit:?}");
-        assert_eq!(rt; end.status, 0, "{circuit:?}");
+/// Whether so many parties print this of their shares.
+fn is_run_by(alloc: Global, machine: &Machine, parties: &str, printed: &str) -> bool {
+    let words = ["local", "c", "v", SEED, "--as", "B", "--parties", parties];
+    machine.prints(alloc, Runs::Program, &words, printed, 0)
+}
+
+fn is_run(alloc: Global, circuit: &str, parties: &str, values: &str, printed: &str) -> bool {
+    let files = [("c", circuit), ("v", values)];
+    is_run_by(alloc, &Machine::new(&files), parties, printed)
+}
+
+/// The number of the first circuit of which something else is printed.
+fn wrong_run(alloc: Global, rows: &[(&str, &str, &str, &str)]) -> Option<usize> {
+    for (at, (circuit, parties, values, printed)) in rows.iter().enumerate() {
+        if !is_run(alloc, circuit, parties, values, printed) {
+            return Some(at);
+        }
     }
-    Ok(())
+    None
+}
+
+#[test]
+fn all_parties_share_the_wires_by_xor(rt: HostRuntime) {
+    let wrong = wrong_run(rt.alloc(), &SHARED);
+    assert!(rt; wrong.is_none(), "circuit {wrong:?}");
 }
 
 struct Row {
@@ -203,13 +226,25 @@ static ROWS: [Row; 14] = [
     },
 ];
 
-#[test]
-fn circuits_in_bristol_fashion_are_told_by_the_words(rt: HostRuntime) -> Result<(), Fail> {
-    for row in &ROWS {
-        let files = [("c", row.circuit), ("v", row.values)];
-        let end = Machine::new(files.as_slice()).run(rt.alloc(), row.words)?;
-        assert_eq!(rt; end.written(), row.printed.as_bytes(), "{:?}", row.words);
-        assert_eq!(rt; end.status, row.status, "{:?}", row.words);
+impl Row {
+    fn is_printed(&self, alloc: Global) -> bool {
+        let files = [("c", self.circuit), ("v", self.values)];
+        Machine::new(&files).prints(alloc, Runs::Program, self.words, self.printed, self.status)
     }
-    Ok(())
+}
+
+/// The number of the first row of which something else is printed.
+fn wrong_row(alloc: Global, rows: &[Row]) -> Option<usize> {
+    for (at, row) in rows.iter().enumerate() {
+        if !row.is_printed(alloc) {
+            return Some(at);
+        }
+    }
+    None
+}
+
+#[test]
+fn circuits_in_bristol_fashion_are_told_by_the_words(rt: HostRuntime) {
+    let wrong = wrong_row(rt.alloc(), &ROWS);
+    assert!(rt; wrong.is_none(), "row {wrong:?}");
 }

@@ -1,7 +1,6 @@
 //! What `deal` stores, prints and refuses.
-use crate::machine::{End, Machine, SEED};
-use std::alloc::Global;
-use std::test::Fail;
+use crate::machine::{End, Machine, Runs, SEED};
+use std::alloc::{AllocError, Global};
 
 // the files of a deal of one multiplication triple between two parties, under the seed of zeros
 const FIRST: &str =
@@ -156,36 +155,63 @@ static DEALS: [Deal; 13] = [
 
 static FILES: [(&str, &str); 2] = [("old", "old"), ("old.0", "part")];
 
+/// The word `deal` and others behind it.
+fn behind_deal<'a>(alloc: Global, words: &[&'a str]) -> Result<Vec<&'a str>, AllocError> {
+    let mut all = vec![in alloc; "deal"]?;
+    all.extend_from_slice(words)?;
+    Ok(all)
+}
+
 impl Deal {
     /// How the command ends, or the program that is given its name in front of the words.
-    fn end(&self, alloc: Global, named: bool) -> Result<End, Fail> {
+    fn end(&self, alloc: Global, runs: Runs, words: &[&str]) -> Option<End> {
         let machine = Machine {
             files: &FILES,
             failing_calls: self.failing_calls,
             room: self.room,
             failing_writes: self.failing_writes,
         };
-        if !named {
-            return machine.run_deal(alloc, self.words);
+        machine.end(alloc, runs, words)
+    }
+
+    /// Whether each name holds what it has to.
+    fn are_held(&self, alloc: Global, end: &End) -> bool {
+        for (name, content) in self.held {
+            if !end.holds(alloc, name, *content) {
+                return false;
+            }
         }
-        let mut words = vec![in alloc; "deal"]?;
-        words.extend_from_slice(self.words)?;
-        machine.run(alloc, words.as_slice())
+        true
+    }
+
+    /// Whether it ends as it has to.
+    fn is_made(&self, alloc: Global, runs: Runs, words: &[&str]) -> bool {
+        match self.end(alloc, runs, words) {
+            Some(end) => end.is(self.printed, self.status) && self.are_held(alloc, &end),
+            None => false,
+        }
+    }
+
+    fn is_made_by_name(&self, alloc: Global) -> bool {
+        match behind_deal(alloc, self.words) {
+            Ok(words) => self.is_made(alloc, Runs::Program, words.as_slice()),
+            Err(_) => false,
+        }
     }
 }
 
-#[test]
-fn parts_are_stored_in_their_order(rt: HostRuntime) -> Result<(), Fail> {
-    for deal in &DEALS {
-        for named in [false, true] {
-            let end = deal.end(rt.alloc(), named)?;
-            assert_eq!(rt; end.written(), deal.printed.as_bytes(), "{:?}", deal.words);
-            assert_eq!(rt; end.status, deal.status, "{:?}", deal.words);
-            for (name, content) in deal.held {
-                let held = end.held(rt.alloc(), name)?;
-                assert_eq!(rt; held.as_deref(), *content, "{name} of {:?}", deal.words);
-            }
+/// The number of the first deal that ends otherwise.
+fn wrong_deal(alloc: Global, rows: &[Deal]) -> Option<usize> {
+    for (at, deal) in rows.iter().enumerate() {
+        if !deal.is_made(alloc, Runs::Deal, deal.words) || !deal.is_made_by_name(alloc) {
+            return Some(at);
         }
     }
-    Ok(())
+    None
+}
+
+#[test]
+fn parts_are_stored_in_their_order(rt: HostRuntime) {
+    let wrong = wrong_deal(rt.alloc(), &DEALS);
+    assert!(rt; wrong.is_none(), "deal {wrong:?}");
 }

@@ -1,11 +1,35 @@
 //! The program on a machine in memory.
-use mot_base::{MemFiles, MemSink};
+ghost use Rattle.std.specs.Prelude.{◌≡◌, IfOk, length, vec_len};
+
+use mot_base::{MemFiles, MemSink, NoMemory};
 use motion_cli::{deal_command, local_command, motion, needs_command, plain_command};
 use std::alloc::{AllocError, Global};
-use std::test::Fail;
 
 /// The word of a seed.
 pub(crate) const SEED: &str = "0000000000000000000000000000000000000000000000000000000000000000";
+
+/// What runs: the program on the words after its name, or a command on the words after that of the command.
+#[derive(Clone, Copy)]
+pub(crate) enum Runs {
+    Program,
+    Plain,
+    Needs,
+    Deal,
+    Local,
+}
+
+impl Runs {
+    /// Runs it, and gives its status.
+    fn run(self, alloc: Global, words: &[String], files: &mut MemFiles, out: &mut MemSink) -> u8 {
+        match self {
+            Runs::Program => motion(alloc, words, files, out),
+            Runs::Plain => plain_command(alloc, words, files, out),
+            Runs::Needs => needs_command(alloc, words, files, out),
+            Runs::Deal => deal_command(alloc, words, files, out),
+            Runs::Local => local_command(alloc, words, files, out),
+        }
+    }
+}
 
 /// Files and an output in memory.
 #[derive(Drop)]
@@ -20,18 +44,18 @@ pub(crate) struct Machine<'a> {
     pub(crate) failing_writes: &'a [u64],
 }
 
-/// How the program ended.
+/// How a run ended.
 #[derive(Drop)]
 pub(crate) struct End {
-    pub(crate) status: u8,
+    status: u8,
     files: MemFiles,
     out: MemSink,
 }
 
 impl End {
-    /// What the program wrote.
-    pub(crate) fn written(&self) -> &[u8] {
-        self.out.bytes()
+    /// Whether this was written, and the run ended with that status.
+    pub(crate) fn is(&self, written: &str, status: u8) -> bool {
+        self.status == status && self.out.bytes() == written.as_bytes()
     }
 
     /// The files as they are then.
@@ -39,12 +63,20 @@ impl End {
         self.files
     }
 
-    /// What a name holds, in hexadecimal digits.
-    pub(crate) fn held(&self, alloc: Global, name: &str) -> Result<Option<String>, Fail> {
-        match self.files.get(name) {
-            Some(bytes) => Ok(Some(hex::encode(alloc, bytes)?)),
-            None => Ok(None),
+    /// Whether a name holds this, in hexadecimal digits, or nothing.
+    pub(crate) fn holds(&self, alloc: Global, name: &str, content: Option<&str>) -> bool {
+        match (self.files.get(name), content) {
+            (Some(bytes), Some(text)) => is_hex(alloc, bytes, text),
+            (None, None) => true,
+            _ => false,
         }
+    }
+}
+
+fn is_hex(alloc: Global, bytes: &[u8], text: &str) -> bool {
+    match hex::encode(alloc, bytes) {
+        Ok(seen) => seen.as_str() == text,
+        Err(_) => false,
     }
 }
 
@@ -59,80 +91,90 @@ impl<'a> Machine<'a> {
         }
     }
 
-    /// Runs the program on the words after its name.
-    pub(crate) fn run(&self, alloc: Global, words: &[&str]) -> Result<End, Fail> {
-        run_over(alloc, words, self.files(alloc)?, self.out(alloc)?)
+    /// How a run on some words ends.
+    pub(crate) fn end(&self, alloc: Global, runs: Runs, words: &[&str]) -> Option<End> {
+        match self.files(alloc) {
+            Ok(files) => self.end_over(alloc, runs, words, files),
+            Err(_) => None,
+        }
     }
 
-    /// Runs the command `local` on the words after it.
-    pub(crate) fn run_local(&self, alloc: Global, words: &[&str]) -> Result<End, Fail> {
-        let words = strings(alloc, words)?;
-        let mut files = self.files(alloc)?;
-        let mut out = self.out(alloc)?;
-        let status = local_command(alloc, words.as_slice(), &mut files, &mut out);
-        Ok(End { status, files, out })
+    /// The same over other files.
+    pub(crate) fn end_over(
+        &self,
+        alloc: Global,
+        runs: Runs,
+        words: &[&str],
+        files: MemFiles,
+    ) -> Option<End> {
+        match self.out(alloc) {
+            Ok(out) => end_of(alloc, runs, words, files, out),
+            Err(_) => None,
+        }
     }
 
-    /// Runs the command `deal` on the words after it.
-    pub(crate) fn run_deal(&self, alloc: Global, words: &[&str]) -> Result<End, Fail> {
-        let words = strings(alloc, words)?;
-        let mut files = self.files(alloc)?;
-        let mut out = self.out(alloc)?;
-        let status = deal_command(alloc, words.as_slice(), &mut files, &mut out);
-        Ok(End { status, files, out })
-    }
-
-    /// Runs the command `plain` on the words after it.
-    pub(crate) fn run_plain(&self, alloc: Global, words: &[&str]) -> Result<End, Fail> {
-        let words = strings(alloc, words)?;
-        let mut files = self.files(alloc)?;
-        let mut out = self.out(alloc)?;
-        let status = plain_command(alloc, words.as_slice(), &mut files, &mut out);
-        Ok(End { status, files, out })
-    }
-
-    /// Runs the command `needs` on the words after it.
-    pub(crate) fn run_needs(&self, alloc: Global, words: &[&str]) -> Result<End, Fail> {
-        let words = strings(alloc, words)?;
-        let mut files = self.files(alloc)?;
-        let mut out = self.out(alloc)?;
-        let status = needs_command(alloc, words.as_slice(), &mut files, &mut out);
-        Ok(End { status, files, out })
+    /// Whether a run on some words writes this and ends with that status.
+    pub(crate) fn prints(
+        &self,
+        alloc: Global,
+        runs: Runs,
+        words: &[&str],
+        written: &str,
+        status: u8,
+    ) -> bool {
+        match self.end(alloc, runs, words) {
+            Some(end) => end.is(written, status),
+            None => false,
+        }
     }
 
     /// Its files, of which no call is made yet.
-    pub(crate) fn files(&self, alloc: Global) -> Result<MemFiles, Fail> {
-        let names: Vec<String> = self
-            .files
-            .iter()
-            .map(|(name, _)| String::from_str(alloc, name))
-            .try_collect(alloc)?;
-        let contents: Vec<Vec<u8>> = self
-            .files
-            .iter()
-            .map(|(_, content)| Vec::from_slice(alloc, content.as_bytes()))
-            .try_collect(alloc)?;
+    pub(crate) fn files(&self, alloc: Global) -> Result<MemFiles, AllocError> {
         let failing = Vec::from_slice(alloc, self.failing_calls)?;
-        Ok(MemFiles::new(names, contents, failing))
+        let names = names_of(alloc, self.files)?;
+        Ok(MemFiles::new(names, contents_of(alloc, self.files)?, failing))
     }
 
     /// Its output, which is empty.
-    pub(crate) fn out(&self, alloc: Global) -> Result<MemSink, Fail> {
+    fn out(&self, alloc: Global) -> Result<MemSink, NoMemory> {
         let failing = Vec::from_slice(alloc, self.failing_writes)?;
-        Ok(MemSink::new(alloc, self.room, failing)?)
+        MemSink::new(alloc, self.room, failing)
     }
 }
 
-/// Runs the program on the words after its name, over these files and this output.
-pub(crate) fn run_over(
+fn names_of(alloc: Global, files: &[(&str, &str)]) -> Result<Vec<String>, AllocError>
+    ensures { IfOk result (λ names. vec_len names ≡ length files.now) }
+{
+    files
+        .iter()
+        .map(|(name, _)| String::from_str(alloc, name))
+        .try_collect(alloc)
+}
+
+fn contents_of(alloc: Global, files: &[(&str, &str)]) -> Result<Vec<Vec<u8>>, AllocError>
+    ensures { IfOk result (λ contents. vec_len contents ≡ length files.now) }
+{
+    files
+        .iter()
+        .map(|(_, content)| Vec::from_slice(alloc, content.as_bytes()))
+        .try_collect(alloc)
+}
+
+/// How a run on some words ends, over these files and this output.
+fn end_of(
     alloc: Global,
+    runs: Runs,
     words: &[&str],
     mut files: MemFiles,
     mut out: MemSink,
-) -> Result<End, Fail> {
-    let words = strings(alloc, words)?;
-    let status = motion(alloc, words.as_slice(), &mut files, &mut out);
-    Ok(End { status, files, out })
+) -> Option<End> {
+    match strings(alloc, words) {
+        Ok(words) => {
+            let status = runs.run(alloc, words.as_slice(), &mut files, &mut out);
+            Some(End { status, files, out })
+        }
+        Err(_) => None,
+    }
 }
 
 fn strings(alloc: Global, words: &[&str]) -> Result<Vec<String>, AllocError> {

@@ -1,7 +1,6 @@
 //! What circuits need, and circuits with too many gates.
-use crate::machine::{Machine, SEED};
-use std::alloc::Global;
-use std::test::Fail;
+use crate::machine::{Machine, Runs, SEED};
+use std::alloc::{AllocError, Global};
 
 /// Circuits, what `needs` prints of each, and its status.
 static NEEDS: [(&str, &str, u8); 7] = [
@@ -42,56 +41,88 @@ static NEEDS: [(&str, &str, u8); 7] = [
     ),
 ];
 
-#[test]
-fn what_circuits_need_is_printed(rt: HostRuntime) -> Result<(), Fail> {
-    for (circuit, printed, status) in &NEEDS {
-        let files = [("c", *circuit)];
-        let end = Machine::new(files.as_slice()).run(rt.alloc(), &["needs", "c"])?;
-        assert_eq!(rt; end.status, *status, "{circuit:?}");
-        assert_eq!(rt; end.written(), printed.as_bytes(), "{circuit:?}");
+fn is_printed(alloc: Global, circuit: &str, printed: &str, status: u8) -> bool {
+    let files = [("c", circuit)];
+    Machine::new(&files).prints(alloc, Runs::Program, &["needs", "c"], printed, status)
+}
+
+/// The number of the first circuit of which something else is printed.
+fn wrong_needs(alloc: Global, rows: &[(&str, &str, u8)]) -> Option<usize> {
+    for (at, (circuit, printed, status)) in rows.iter().enumerate() {
+        if !is_printed(alloc, circuit, printed, *status) {
+            return Some(at);
+        }
     }
-    Ok(())
+    None
 }
 
 #[test]
-fn the_command_needs_is_called_without_its_name(rt: HostRuntime) -> Result<(), Fail> {
-    let files = [("c", NEEDS[0].0)];
-    let end = Machine::new(files.as_slice()).run_needs(rt.alloc(), &["c"])?;
-    assert_eq!(rt; end.status, 0);
-    assert_eq!(rt; end.written(), NEEDS[0].1.as_bytes());
-    let refused = Machine::new(files.as_slice()).run_needs(rt.alloc(), &["needs", "c"])?;
-    assert_eq!(rt; refused.status, 1);
-    let missing = Machine::new(files.as_slice()).run_needs(rt.alloc(), &["d"])?;
-    assert_eq!(rt; missing.status, 8);
-    assert_eq!(rt; missing.written(), b"file d: missing\n".as_slice());
-    Ok(())
+fn what_circuits_need_is_printed(rt: HostRuntime) {
+    let wrong = wrong_needs(rt.alloc(), &NEEDS);
+    assert!(rt; wrong.is_none(), "circuit {wrong:?}");
+}
+
+const PRODUCT: &str =
+    "mixed 1\nparties 2\nx = input 0 A\ny = input 1 A\nz = mul x y\noutput z all\n";
+
+#[test]
+fn the_command_needs_is_called_without_its_name(rt: HostRuntime) {
+    let files = [("c", PRODUCT)];
+    let machine = Machine::new(&files);
+    let printed = "gates 4\nmult 1\nbit 0\nshared 0\nkey 0\n";
+    let is_printed = machine.prints(rt.alloc(), Runs::Needs, &["c"], printed, 0);
+    let is_refused = machine.prints(rt.alloc(), Runs::Needs, &["needs", "c"], "usage\n", 1);
+    let line = "file d: missing\n";
+    let is_missing = machine.prints(rt.alloc(), Runs::Needs, &["d"], line, 8);
+    assert!(rt; is_printed && is_refused && is_missing);
+}
+
+fn push_conversion(alloc: Global, text: &mut String, number: u32) -> Result<(), AllocError> {
+    let line = format!(in alloc; "y{number} = a2y x\n")?;
+    text.push_str(line.as_str())
 }
 
 /// A circuit of eight parties with so many conversions of one input to keys.
-fn with_conversions(alloc: Global, count: u32) -> Result<String, Fail> {
+fn with_conversions(alloc: Global, count: u32) -> Result<String, AllocError> {
     let mut text = String::from_str(alloc, "mixed 1\nparties 8\nx = input 0 A\n")?;
     for number in 0..count {
-        text.push_str(format!(in alloc; "y{number} = a2y x\n")?.as_str())?;
+        push_conversion(alloc, &mut text, number)?;
     }
     Ok(text)
 }
 
+/// A circuit of as many gates as a plan has at most is evaluated, and not built.
+fn are_few(alloc: Global, circuit: &str) -> bool {
+    let files = [("c", circuit), ("v", "x = 1\n")];
+    let machine = Machine::new(&files);
+    machine.prints(alloc, Runs::Program, &["plain", "c", "v"], "", 0)
+        && machine.prints(
+            alloc,
+            Runs::Program,
+            &["needs", "c"],
+            "circuit c: not built\n",
+            2,
+        )
+}
+
+fn are_many(alloc: Global, circuit: &str) -> bool {
+    let files = [("c", circuit), ("v", "")];
+    let machine = Machine::new(&files);
+    let local = ["local", "c", "v", SEED];
+    let line = "circuit c: gates 4200067\n";
+    machine.prints(alloc, Runs::Program, &["plain", "c", "v"], line, 2)
+        && machine.prints(alloc, Runs::Program, &local, "circuit c: not built\n", 2)
+}
+
 #[test]
-fn too_many_gates_are_told_before_the_values(rt: HostRuntime) -> Result<(), Fail> {
-    let few = with_conversions(rt.alloc(), 557)?;
-    let files = [("c", few.as_str()), ("v", "x = 1\n")];
-    let machine = Machine::new(files.as_slice());
-    let end = machine.run(rt.alloc(), &["plain", "c", "v"])?;
-    assert_eq!(rt; end.status, 0);
-    assert_eq!(rt; end.written(), b"".as_slice());
-    let not_built = machine.run(rt.alloc(), &["needs", "c"])?;
-    assert_eq!(rt; not_built.written(), b"circuit c: not built\n".as_slice());
-    let many = with_conversions(rt.alloc(), 558)?;
-    let files = [("c", many.as_str()), ("v", "")];
-    let end = Machine::new(files.as_slice()).run(rt.alloc(), &["plain", "c", "v"])?;
-    assert_eq!(rt; end.status, 2);
-    assert_eq!(rt; end.written(), b"circuit c: gates 4200067\n".as_slice());
-    let local = Machine::new(files.as_slice()).run(rt.alloc(), &["local", "c", "v", SEED])?;
-    assert_eq!(rt; local.written(), b"circuit c: not built\n".as_slice());
-    Ok(())
+fn too_many_gates_are_told_before_the_values(rt: HostRuntime) {
+    let are_few = match with_conversions(rt.alloc(), 557) {
+        Ok(circuit) => are_few(rt.alloc(), circuit.as_str()),
+        Err(_) => false,
+    };
+    let are_many = match with_conversions(rt.alloc(), 558) {
+        Ok(circuit) => are_many(rt.alloc(), circuit.as_str()),
+        Err(_) => false,
+    };
+    assert!(rt; are_few && are_many);
 }

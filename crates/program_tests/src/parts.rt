@@ -1,7 +1,7 @@
 //! The files of dealer parts, as `deal` stores them and `local` takes them.
-use crate::machine::{End, Machine, SEED, run_over};
+use crate::machine::{Machine, Runs, SEED};
+use mot_base::MemFiles;
 use std::alloc::Global;
-use std::test::Fail;
 
 const PRODUCT: &str =
     "mixed 1\nparties 2\nx = input 0 A\ny = input 1 A\nz = mul x y\noutput z all\n";
@@ -47,7 +47,7 @@ struct Taking {
     status: u8,
 }
 
-static TAKINGS: [Taking; 18] = [
+static TAKINGS: [Taking; 9] = [
     // exactly what the circuit needs, of the seed of the run: the report is the same
     Taking {
         files: &[("c", PRODUCT), ("v", BOTH)],
@@ -141,6 +141,10 @@ static TAKINGS: [Taking; 18] = [
         printed: "dealer d.1: Short\n",
         status: 4,
     },
+];
+
+/// The same where parts are missing, or are not what stops the run.
+static MISSING: [Taking; 9] = [
     // parts that are missing
     Taking {
         files: &[("c", PRODUCT), ("v", BOTH)],
@@ -221,33 +225,63 @@ static TAKINGS: [Taking; 18] = [
 ];
 
 impl Taking {
-    /// How the command ends behind the deals.
-    fn end(&self, alloc: Global) -> Result<End, Fail> {
-        let machine = Machine {
+    fn machine(&self) -> Machine<'static> {
+        Machine {
             files: self.files,
             failing_calls: self.failing_calls,
             room: 1000,
             failing_writes: &[],
-        };
-        let mut files = machine.files(alloc)?;
-        for words in self.deals {
-            files = run_over(alloc, words, files, machine.out(alloc)?)?.into_files();
         }
-        run_over(alloc, self.words, files, machine.out(alloc)?)
+    }
+
+    /// The files behind the deals.
+    fn dealt(&self, alloc: Global, machine: &Machine) -> Option<MemFiles> {
+        let Ok(mut files) = machine.files(alloc) else {
+            return None;
+        };
+        for words in self.deals {
+            files = machine
+                .end_over(alloc, Runs::Program, words, files)?
+                .into_files();
+        }
+        Some(files)
+    }
+
+    /// Whether the command ends as it has to over these files.
+    fn is_taken_from(&self, alloc: Global, machine: &Machine, files: MemFiles) -> bool {
+        match machine.end_over(alloc, Runs::Program, self.words, files) {
+            Some(end) => end.is(self.printed, self.status),
+            None => false,
+        }
+    }
+
+    fn is_taken(&self, alloc: Global) -> bool {
+        let machine = self.machine();
+        match self.dealt(alloc, &machine) {
+            Some(files) => self.is_taken_from(alloc, &machine, files),
+            None => false,
+        }
     }
 }
 
-#[test]
-fn parts_are_taken_from_files(rt: HostRuntime) -> Result<(), Fail> {
-    for taking in &TAKINGS {
-        let end = taking.end(rt.alloc())?;
-        assert_eq!(rt;
-            end.written(),
-            taking.printed.as_bytes(),
-            "{}",
-            taking.printed
-        );
-        assert_eq!(rt; end.status, taking.status, "{}", taking.printed);
+/// The number of the first row that ends otherwise.
+fn wrong_taking(alloc: Global, rows: &[Taking]) -> Option<usize> {
+    for (at, row) in rows.iter().enumerate() {
+        if !row.is_taken(alloc) {
+            return Some(at);
+        }
     }
-    Ok(())
+    None
+}
+
+#[test]
+fn parts_are_taken_from_files(rt: HostRuntime) {
+    let wrong = wrong_taking(rt.alloc(), &TAKINGS);
+    assert!(rt; wrong.is_none(), "row {wrong:?}");
+}
+
+#[test]
+fn parts_that_are_missing_are_told_in_their_turn(rt: HostRuntime) {
+    let wrong = wrong_taking(rt.alloc(), &MISSING);
+    assert!(rt; wrong.is_none(), "row {wrong:?}");
 }

@@ -1,8 +1,7 @@
 //! Words and texts that are refused, each with its line and its status.
-use crate::machine::{End, Machine, SEED, run_over};
-use mot_base::{MAX_FILE_LENGTH, MemFiles, MemSink};
-use std::alloc::Global;
-use std::test::Fail;
+use crate::machine::{Machine, Runs, SEED};
+use mot_base::{MAX_FILE_LENGTH, MemFiles};
+use std::alloc::{AllocError, Global};
 
 static FILES: [(&str, &str); 10] = [
     (
@@ -29,7 +28,22 @@ static FILES: [(&str, &str); 10] = [
     ),
 ];
 
-static WORDS: [&[&str]; 41] = [
+fn machine() -> Machine<'static> {
+    Machine::new(&FILES)
+}
+
+/// The number of the first words that are not refused.
+fn words_not_refused(alloc: Global, machine: &Machine, rows: &[&[&str]]) -> Option<usize> {
+    for (at, words) in rows.iter().enumerate() {
+        if !machine.prints(alloc, Runs::Program, words, "usage\n", 1) {
+            return Some(at);
+        }
+    }
+    None
+}
+
+/// Words for names and seeds.
+static WORDS: [&[&str]; 19] = [
     &[],
     &["plain"],
     &["plain", "product"],
@@ -65,6 +79,16 @@ static WORDS: [&[&str]; 41] = [
         "both",
         "000000000000000000000000000000000000000000000000000000000000000g",
     ],
+];
+
+#[test]
+fn other_words_are_refused(rt: HostRuntime) {
+    let wrong = words_not_refused(rt.alloc(), &machine(), &WORDS);
+    assert!(rt; wrong.is_none(), "words {wrong:?}");
+}
+
+/// Words that are not names, and options.
+static OPTIONS: [&[&str]; 22] = [
     // help, which there is none of, and a divider in the place of a command
     &["-h"],
     &["--help"],
@@ -103,13 +127,9 @@ static WORDS: [&[&str]; 41] = [
 ];
 
 #[test]
-fn other_words_are_refused(rt: HostRuntime) -> Result<(), Fail> {
-    for words in &WORDS {
-        let end = Machine::new(&FILES).run(rt.alloc(), words)?;
-        assert_eq!(rt; end.written(), b"usage\n".as_slice(), "{words:?}");
-        assert_eq!(rt; end.status, 1, "{words:?}");
-    }
-    Ok(())
+fn other_options_are_refused(rt: HostRuntime) {
+    let wrong = words_not_refused(rt.alloc(), &machine(), &OPTIONS);
+    assert!(rt; wrong.is_none(), "words {wrong:?}");
 }
 
 struct Refusal {
@@ -294,68 +314,92 @@ static NOT_BUILT: [Refusal; 5] = [
 ];
 
 impl Refusal {
-    /// How a command ends that has to refuse so.
-    fn end(&self, alloc: Global, words: &[&str]) -> Result<End, Fail> {
+    /// Whether a command refuses so.
+    fn is_told(&self, alloc: Global, words: &[&str]) -> bool {
         let machine = Machine {
-            files: &FILES,
+            files: machine().files,
             failing_calls: self.failing_calls,
             room: 1000,
             failing_writes: &[],
         };
-        machine.run(alloc, words)
+        machine.prints(alloc, Runs::Program, words, self.line, self.status)
+    }
+
+    fn is_told_by_local(&self, alloc: Global) -> bool {
+        self.is_told(alloc, &["local", self.circuit, self.values, SEED])
+    }
+
+    fn is_told_by_both(&self, alloc: Global) -> bool {
+        self.is_told(alloc, &["plain", self.circuit, self.values]) && self.is_told_by_local(alloc)
     }
 }
 
 #[test]
-fn the_command_refuses_its_own_name(rt: HostRuntime) -> Result<(), Fail> {
-    let words = ["local", "product", "both", SEED];
-    let end = Machine::new(&FILES).run_local(rt.alloc(), &words)?;
-    assert_eq!(rt; end.written(), b"usage\n".as_slice());
-    assert_eq!(rt; end.status, 1);
-    let end = Machine::new(&FILES).run_plain(rt.alloc(), &["plain", "product", "both"])?;
-    assert_eq!(rt; end.written(), b"usage\n".as_slice());
-    assert_eq!(rt; end.status, 1);
-    Ok(())
+fn the_command_refuses_its_own_name(rt: HostRuntime) {
+    let local = ["local", "product", "both", SEED];
+    let plain = ["plain", "product", "both"];
+    let is_local_refused = machine().prints(rt.alloc(), Runs::Local, &local, "usage\n", 1);
+    let is_plain_refused = machine().prints(rt.alloc(), Runs::Plain, &plain, "usage\n", 1);
+    assert!(rt; is_local_refused && is_plain_refused);
 }
 
-#[test]
-fn the_first_cause_is_told(rt: HostRuntime) -> Result<(), Fail> {
-    for refusal in &REFUSALS {
-        let end = refusal.end(rt.alloc(), &["plain", refusal.circuit, refusal.values])?;
-        assert_eq!(rt; end.written(), refusal.line.as_bytes(), "{}", refusal.line);
-        assert_eq!(rt; end.status, refusal.status, "{}", refusal.line);
-        let end = refusal.end(
-            rt.alloc(),
-            &["local", refusal.circuit, refusal.values, SEED],
-        )?;
-        assert_eq!(rt; end.written(), refusal.line.as_bytes(), "{}", refusal.line);
-        assert_eq!(rt; end.status, refusal.status, "{}", refusal.line);
+/// The number of the first row of which something else is told.
+fn wrong_refusal(alloc: Global, rows: &[Refusal]) -> Option<usize> {
+    for (at, row) in rows.iter().enumerate() {
+        if !row.is_told_by_both(alloc) {
+            return Some(at);
+        }
     }
-    Ok(())
+    None
 }
 
 #[test]
-fn circuits_that_are_not_run_on_shares_are_told(rt: HostRuntime) -> Result<(), Fail> {
-    for refusal in &NOT_BUILT {
-        let end = refusal.end(
-            rt.alloc(),
-            &["local", refusal.circuit, refusal.values, SEED],
-        )?;
-        assert_eq!(rt; end.written(), refusal.line.as_bytes(), "{}", refusal.line);
-        assert_eq!(rt; end.status, refusal.status, "{}", refusal.line);
+fn the_first_cause_is_told(rt: HostRuntime) {
+    let wrong = wrong_refusal(rt.alloc(), &REFUSALS);
+    assert!(rt; wrong.is_none(), "row {wrong:?}");
+}
+
+/// The same of `local` alone.
+fn wrong_refusal_of_local(alloc: Global, rows: &[Refusal]) -> Option<usize> {
+    for (at, row) in rows.iter().enumerate() {
+        if !row.is_told_by_local(alloc) {
+            return Some(at);
+        }
     }
-    Ok(())
+    None
 }
 
 #[test]
-fn a_file_that_is_too_long_is_refused(rt: HostRuntime) -> Result<(), Fail> {
-    let alloc = rt.alloc();
+fn circuits_that_are_not_run_on_shares_are_told(rt: HostRuntime) {
+    let wrong = wrong_refusal_of_local(rt.alloc(), &NOT_BUILT);
+    assert!(rt; wrong.is_none(), "row {wrong:?}");
+}
+
+/// A file of one byte more than a file may have.
+fn too_long(alloc: Global) -> Result<MemFiles, AllocError> {
     let names = vec![in alloc; String::from_str(alloc, "long")?]?;
-    let contents = vec![in alloc; vec![in alloc; b' '; MAX_FILE_LENGTH + 1]?]?;
-    let files = MemFiles::new(names, contents, Vec::new(alloc));
-    let out = MemSink::new(alloc, 100, Vec::new(alloc))?;
-    let end = run_over(alloc, &["local", "long", "long", SEED], files, out)?;
-    assert_eq!(rt; end.written(), b"file long: too long\n".as_slice());
-    assert_eq!(rt; end.status, 8);
-    Ok(())
+    let content = vec![in alloc; b' '; MAX_FILE_LENGTH + 1]?;
+    let contents = vec![in alloc; content]?;
+    Ok(MemFiles::new(names, contents, Vec::new(alloc)))
+}
+
+fn is_too_long(alloc: Global, files: MemFiles) -> bool {
+    match machine().end_over(
+        alloc,
+        Runs::Program,
+        &["local", "long", "long", SEED],
+        files,
+    ) {
+        Some(end) => end.is("file long: too long\n", 8),
+        None => false,
+    }
+}
+
+#[test]
+fn a_file_that_is_too_long_is_refused(rt: HostRuntime) {
+    let is_refused = match too_long(rt.alloc()) {
+        Ok(files) => is_too_long(rt.alloc(), files),
+        Err(_) => false,
+    };
+    assert!(rt; is_refused);
 }

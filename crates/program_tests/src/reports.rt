@@ -1,11 +1,28 @@
 //! Circuits, the values of their inputs, and what is printed.
-use crate::machine::{Machine, SEED};
-use std::test::Fail;
+use crate::machine::{Machine, Runs, SEED};
+use std::alloc::Global;
 
 struct Report {
     circuit: &'static str,
     values: &'static str,
     printed: &'static str,
+}
+
+impl Report {
+    fn is_printed(&self, alloc: Global, runs: Runs, words: &[&str]) -> bool {
+        let files = [("c", self.circuit), ("v", self.values)];
+        Machine::new(&files).prints(alloc, runs, words, self.printed, 0)
+    }
+}
+
+/// The number of the first report that is printed otherwise.
+fn wrong_report(alloc: Global, rows: &[Report], runs: Runs, words: &[&str]) -> Option<usize> {
+    for (at, report) in rows.iter().enumerate() {
+        if !report.is_printed(alloc, runs, words) {
+            return Some(at);
+        }
+    }
+    None
 }
 
 static REPORTS: [Report; 15] = [
@@ -164,20 +181,21 @@ static REPORTS: [Report; 15] = [
     },
 ];
 
+fn reports() -> &'static [Report] {
+    &REPORTS
+}
+
 #[test]
-fn each_party_is_told_its_outputs_and_its_digest(rt: HostRuntime) -> Result<(), Fail> {
-    for report in &REPORTS {
-        let files = [("c", report.circuit), ("v", report.values)];
-        let end = Machine::new(&files).run(rt.alloc(), &["local", "c", "v", SEED])?;
-        assert_eq!(rt;
-            end.written(),
-            report.printed.as_bytes(),
-            "{}",
-            report.circuit
-        );
-        assert_eq!(rt; end.status, 0, "{}", report.circuit);
-    }
-    Ok(())
+fn each_party_is_told_its_outputs_and_its_digest(rt: HostRuntime) {
+    let words = ["local", "c", "v", SEED];
+    let wrong = wrong_report(rt.alloc(), reports(), Runs::Program, &words);
+    assert!(rt; wrong.is_none(), "report {wrong:?}");
+}
+
+#[test]
+fn the_command_is_called_without_its_name(rt: HostRuntime) {
+    let wrong = wrong_report(rt.alloc(), reports(), Runs::Local, &["c", "v", SEED]);
+    assert!(rt; wrong.is_none(), "report {wrong:?}");
 }
 
 // seeds of digits of both cases, and what is printed of the product
@@ -196,31 +214,21 @@ static SEEDS: [(&str, &str); 2] = [
     ),
 ];
 
-#[test]
-fn the_digests_follow_the_seed(rt: HostRuntime) -> Result<(), Fail> {
-    let files = [("c", PRODUCT), ("v", "x = 6\ny = 7\n")];
-    for (seed, printed) in &SEEDS {
-        let end = Machine::new(&files).run(rt.alloc(), &["local", "c", "v", seed])?;
-        assert_eq!(rt; end.written(), printed.as_bytes(), "{seed}");
-        assert_eq!(rt; end.status, 0, "{seed}");
+/// The number of the first seed under which something else is printed.
+fn wrong_seed(alloc: Global, machine: &Machine, rows: &[(&str, &str)]) -> Option<usize> {
+    for (at, (seed, printed)) in rows.iter().enumerate() {
+        if !machine.prints(alloc, Runs::Program, &["local", "c", "v", seed], printed, 0) {
+            return Some(at);
+        }
     }
-    Ok(())
+    None
 }
 
 #[test]
-fn the_command_is_called_without_its_name(rt: HostRuntime) -> Result<(), Fail> {
-    for report in &REPORTS {
-        let files = [("c", report.circuit), ("v", report.values)];
-        let end = Machine::new(&files).run_local(rt.alloc(), &["c", "v", SEED])?;
-        assert_eq!(rt;
-            end.written(),
-            report.printed.as_bytes(),
-            "{}",
-            report.circuit
-        );
-        assert_eq!(rt; end.status, 0, "{}", report.circuit);
-    }
-    Ok(())
+fn the_digests_follow_the_seed(rt: HostRuntime) {
+    let files = [("c", PRODUCT), ("v", "x = 6\ny = 7\n")];
+    let wrong = wrong_seed(rt.alloc(), &Machine::new(&files), &SEEDS);
+    assert!(rt; wrong.is_none(), "seed {wrong:?}");
 }
 
 // what the plain evaluation of circuits prints
@@ -256,29 +264,23 @@ static EVALUATIONS: [Report; 5] = [
     },
 ];
 
+fn evaluations() -> &'static [Report] {
+    &EVALUATIONS
+}
+
 #[test]
-fn the_plain_evaluation_is_printed(rt: HostRuntime) -> Result<(), Fail> {
-    for report in &EVALUATIONS {
-        let files = [("c", report.circuit), ("v", report.values)];
-        let machine = Machine::new(&files);
-        let end = machine.run(rt.alloc(), &["plain", "c", "v"])?;
-        assert_eq!(rt;
-            end.written(),
-            report.printed.as_bytes(),
-            "{}",
-            report.circuit
-        );
-        assert_eq!(rt; end.status, 0, "{}", report.circuit);
-        let end = machine.run_plain(rt.alloc(), &["c", "v"])?;
-        assert_eq!(rt;
-            end.written(),
-            report.printed.as_bytes(),
-            "{}",
-            report.circuit
-        );
-        assert_eq!(rt; end.status, 0, "{}", report.circuit);
-    }
-    Ok(())
+fn the_plain_evaluation_is_printed(rt: HostRuntime) {
+    let wrong = wrong_report(
+        rt.alloc(),
+        evaluations(),
+        Runs::Program,
+        &["plain", "c", "v"],
+    );
+    let wrong_command = wrong_report(rt.alloc(), evaluations(), Runs::Plain, &["c", "v"]);
+    assert!(rt;
+        wrong.is_none() && wrong_command.is_none(),
+        "{wrong:?} {wrong_command:?}"
+    );
 }
 
 const PRODUCT: &str =
@@ -319,12 +321,18 @@ static LINES: [(&[&str], &str); 9] = [
     ),
 ];
 
-#[test]
-fn names_are_told_from_options(rt: HostRuntime) -> Result<(), Fail> {
-    for (words, printed) in &LINES {
-        let end = Machine::new(&DASHED).run(rt.alloc(), words)?;
-        assert_eq!(rt; end.written(), printed.as_bytes(), "{words:?}");
-        assert_eq!(rt; end.status, 0, "{words:?}");
+/// The number of the first words by which something else is printed.
+fn wrong_line(alloc: Global, machine: &Machine, rows: &[(&[&str], &str)]) -> Option<usize> {
+    for (at, (words, printed)) in rows.iter().enumerate() {
+        if !machine.prints(alloc, Runs::Program, words, printed, 0) {
+            return Some(at);
+        }
     }
-    Ok(())
+    None
+}
+
+#[test]
+fn names_are_told_from_options(rt: HostRuntime) {
+    let wrong = wrong_line(rt.alloc(), &Machine::new(&DASHED), &LINES);
+    assert!(rt; wrong.is_none(), "line {wrong:?}");
 }

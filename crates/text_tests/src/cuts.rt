@@ -1,19 +1,19 @@
 //! Told bits that are cut into outputs.
 
 use circuit_values::{OutputTable, Outputs, Receiver};
-use mot_base::{NoMemory, Party};
+use mot_base::Party;
 use share_types::Bits;
 use std::alloc::Global;
 
 /// A table of four outputs, to party 0, to all, to party 1 and to party 0, of which the last is wider than a
 /// word.
-fn table(alloc: Global) -> Result<OutputTable, NoMemory> {
+fn table(alloc: Global) -> Option<OutputTable> {
     let mut outputs = OutputTable::new(alloc);
-    outputs.push("p", Receiver::One(Party(0)), 3)?;
-    outputs.push("q", Receiver::All, 5)?;
-    outputs.push("r", Receiver::One(Party(1)), 2)?;
-    outputs.push("s", Receiver::One(Party(0)), 66)?;
-    Ok(outputs)
+    let are_pushed = outputs.push("p", Receiver::One(Party(0)), 3).is_ok()
+        && outputs.push("q", Receiver::All, 5).is_ok()
+        && outputs.push("r", Receiver::One(Party(1)), 2).is_ok()
+        && outputs.push("s", Receiver::One(Party(0)), 66).is_ok();
+    if are_pushed { Some(outputs) } else { None }
 }
 
 /// Vectors of these numbers and widths.
@@ -55,25 +55,34 @@ fn are_outputs(outputs: &Outputs, rows: &[(&str, Receiver, &str)]) -> bool {
     outputs.len() as usize == rows.len()
 }
 
-/// Whether the vectors are cut into these outputs of `table`, or cannot be cut where there are none.
+/// Whether the vectors are cut into these outputs.
+fn are_cut_into(
+    alloc: Global,
+    table: &OutputTable,
+    party: Option<Party>,
+    vectors: &[Bits],
+    rows: &[(&str, Receiver, &str)],
+) -> bool {
+    if !Outputs::can_cut(table, party, vectors) {
+        return false;
+    }
+    match Outputs::cut(alloc, table, party, vectors) {
+        Ok(outputs) => are_outputs(&outputs, rows),
+        Err(_) => false,
+    }
+}
+
+/// Whether the vectors are cut into these outputs, or cannot be cut where there are none.
 fn are_cut(
     alloc: Global,
+    table: &OutputTable,
     party: Option<Party>,
     vectors: &[Bits],
     rows: Option<&[(&str, Receiver, &str)]>,
 ) -> bool {
-    let Ok(table) = table(alloc) else {
-        return false;
-    };
-    let Some(rows) = rows else {
-        return !Outputs::can_cut(&table, party, vectors);
-    };
-    if !Outputs::can_cut(&table, party, vectors) {
-        return false;
-    }
-    match Outputs::cut(alloc, &table, party, vectors) {
-        Ok(outputs) => are_outputs(&outputs, rows),
-        Err(_) => false,
+    match rows {
+        Some(rows) => are_cut_into(alloc, table, party, vectors, rows),
+        None => !Outputs::can_cut(table, party, vectors),
     }
 }
 
@@ -158,10 +167,11 @@ static CUTS: [Cut; 9] = [
     },
 ];
 
+/// Whether the outputs of `table` are cut as a row says.
 fn is_cut(alloc: Global, row: &Cut) -> bool {
-    match vectors(alloc, row.told) {
-        Some(vectors) => are_cut(alloc, row.party, &vectors, row.outputs),
-        None => false,
+    match (table(alloc), vectors(alloc, row.told)) {
+        (Some(table), Some(vectors)) => { are_cut(alloc, &table, row.party, &vectors, row.outputs) }
+        _ => false,
     }
 }
 
