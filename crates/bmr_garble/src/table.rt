@@ -26,6 +26,7 @@ impl Table {
         requires { length share.now.rows ≡ length self.old.rows }
         ensures width { self.new.width ≡ self.old.width }
         ensures parties { self.new.parties ≡ self.old.parties }
+        ensures count { length self.new.rows ≡ length self.old.rows }
         ensures rows { (n w : ℕ) (mine others : Entries) → IsTable n w mine self.old → IsTable n w others share.now →
             IsTable n w (λ i r j. mine i r j ⊕ others i r j) self.new }
     {
@@ -39,6 +40,7 @@ impl Table {
         requires { 16 * length self.old.rows ≤ length payload.now }
         ensures width { self.new.width ≡ self.old.width }
         ensures parties { self.new.parties ≡ self.old.parties }
+        ensures count { length self.new.rows ≡ length self.old.rows }
         ensures rows { (n w : ℕ) (mine : Entries) → IsTable n w mine self.old →
             IsTable n w (λ i r j. mine i r j ⊕ payload_entry n payload.now i r j) self.new }
     {
