@@ -115,3 +115,15 @@ module _ (n w gate : ℕ) (entries : Entries) (a b : Active) (t : Table) (u v ma
           key_at-each (w * n) listed made.keys (i * n + j) keys (place-inside n w i j less small)
           ∙ (ap₂ (λ (x y : ℕ). result_key n (entries_in n t) gate (online_seen n u) (online_seen n v) x y) (div-mul-add i n j small) (mod-mul-add i n j small)
           ∙ served i j less small)
+
+-- keys that are given place by place are an online value
+pub given : (n w : ℕ) (keys : ℕ → ℕ → ℕ) (masked : ℕ) (made : Online) → made.masked.width ≡ w → made.masked.word ≡ masked →
+    made.keys ≡ each (w * n) (λ k. record { 0 = keys (k / n) (k % n) }) → IsOnline n w (record { masked = masked; keys = keys }) made
+given n w keys masked made wide word listed = record {
+  width = wide;
+  masked = word;
+  key_count = ap length listed ∙ length-each (w * n) (λ k. let key : Key = record { 0 = keys (k / n) (k % n) } in key);
+  keys = λ i j less small.
+      key_at-each (w * n) (λ k. keys (k / n) (k % n)) made.keys (i * n + j) listed (place-inside n w i j less small)
+      ∙ ap₂ keys (div-mul-add i n j small) (mod-mul-add i n j small);
+}

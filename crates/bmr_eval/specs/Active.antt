@@ -1,11 +1,12 @@
 -- What each call makes of what all parties see of wires: masked bits and active keys.
-use Rattle.std.specs.Prelude.{◌≡◌, ℕ, ◌+◌, ◌*◌, ◌<◌, ◌/◌, Bool, List, length}
+use Rattle.std.specs.Prelude.{◌≡◌, ℕ, ◌+◌, ◌-◌, ◌*◌, ◌<◌, ◌/◌, ◌==◌, nat_lt, if◌then◌else◌, Bool, List, [], get_or, length}
 use Rattle.share_types.specs.Bits.{once, number}
 use Rattle.share_types.specs.Sums.{xor_to, each}
 use Rattle.share_types.specs.Keys.{◌⊕◌, bit, times, key_at, key_of}
 use Rattle.share_types.specs.declared.keys.Key.{Key}
 use Rattle.share_types.specs.declared.keys.Online.{Online}
 use Rattle.bmr_keys.specs.Hiding.{hiding_key}
+use Rattle.bmr_keys.specs.Payload.{key_in}
 use Rattle.bmr_keys.specs.Mask.{Mask, cut, behind, slice, join}
 use Rattle.bmr_keys.specs.Wires.{Active}
 use Rattle.bmr_garble.specs.declared.table.Table.{Table}
@@ -19,6 +20,14 @@ own_active u offset masked i = u.keys i ⊕ times (bit masked i) offset
 pub record AreKeys (w : ℕ) (keys : ℕ → ℕ) (list : List Key) : Type 0 where
   pub count : length list ≡ w
   pub each : (i : ℕ) → i < w → key_at list i ≡ keys i
+
+-- where the payload of a party stands among those of all parties but one, in their order
+abbrev pub heard_place : ℕ → ℕ → ℕ
+heard_place me j = if nat_lt j me then j else j - 1
+
+-- the active key of a bit and an owner: an own one, or one from the owner's payload
+abbrev pub told_key : ℕ → List Key → List (List ℕ) → ℕ → ℕ → ℕ
+told_key me own payloads i j = if j == me then key_at own i else key_in (get_or payloads (heard_place me j) []) i
 
 -- what is seen of the wire of a public vector
 abbrev pub zero_active : Active

@@ -7,7 +7,7 @@ mod evaluate;
 mod laws;
 mod linear;
 
-pub use entry::enter;
+pub use entry::{enter, gathered};
 pub use evaluate::eval_and;
 pub use laws::{
     and_recombines, entry_recombines, flip_recombines, join_recombines, slice_recombines,

@@ -1,7 +1,6 @@
 -- Tables in memory.
-use Rattle.std.proofs.Common.{◌≡◌, ℕ, ◌+◌, ◌*◌, ◌/◌, ◌%◌, ◌<◌, ◌≤◌, ◌&&◌, List, nat_lt, if◌then◌else◌, length, ap, ap₂, ◌∙◌, arith}
+use Rattle.std.proofs.Common.{◌≡◌, ℕ, ◌+◌, ◌*◌, ◌/◌, ◌%◌, ◌<◌, ◌&&◌, List, if◌then◌else◌, length, ap, ap₂, ◌∙◌, arith}
 use Rattle.std.specs.Prelude.{◌==◌}
-use Rattle.std.proofs.lemmas.Bool.{lt-ltb}
 use Rattle.std.proofs.lemmas.Nat.{mul-add-lt, div-mul-add, mod-mul-add}
 use Rattle.share_types.specs.Sums.{each}
 use Rattle.share_types.specs.Keys.{◌⊕◌, bit, times, key_at, key_of}
@@ -13,7 +12,10 @@ use Rattle.bmr_keys.specs.declared.part.MaskPart.{MaskPart}
 use Rattle.bmr_keys.proofs.KeyLists.{key_at-each}
 use Rattle.bmr_garble.specs.declared.table.Table.{Table}
 use Rattle.bmr_garble.specs.Product.{AreShares}
-use Rattle.bmr_garble.specs.Table.{Entries, entry_place, IsTable, share_entry}
+use Rattle.bmr_keys.specs.Payload.{key_in}
+use Rattle.bmr_keys.proofs.Payloads.{keys-back}
+use Rattle.bmr_garble.specs.Laws.{PayloadTells}
+use Rattle.bmr_garble.specs.Table.{Entries, entry_place, IsTable, share_entry, payload_entry}
 
 -- ## Places of entries
 line_below : (w i r : ℕ) → i < w → r < 4 → 4 * i + r < 4 * w
@@ -85,21 +87,22 @@ served n width me offset gate u v w product pu pv pw keys as_u as_v as_w as_prod
     (as_w.shares i j p s))
     (own-served me offset i r j (key_at pw.keys i) (w.keys i) (as_w.keys i p))
 
--- ## Two shares of a table joined
-pub joined-table : (n w : ℕ) (mine others : Entries) (old share new : Table) → IsTable n w mine old → IsTable n w others share →
-    new.width ≡ old.width → new.parties ≡ old.parties → length new.rows ≡ length old.rows →
-    (count : ℕ) → length share.rows ≤ count →
-    ((k : ℕ) → key_at new.rows k ≡ key_at old.rows k ⊕ (if nat_lt k count then key_at share.rows k else 0)) →
-    IsTable n w (λ i r j. mine i r j ⊕ others i r j) new
-joined-table n w mine others old share new as_old as_share wide parties count length_is all kept = record {
-  width = wide ∙ as_old.width;
-  parties = parties ∙ as_old.parties;
-  count = count ∙ as_old.count;
-  rows = λ i r j p q s.
-      let place = entry_place n i r j in
-      let inside = entry-inside n w i r j p q s in
-      let size = as_share.count in
-      kept place
-      ∙ (ap (λ b. key_at old.rows place ⊕ (if b then key_at share.rows place else 0)) (lt-ltb place length_is (omega arith))
-      ∙ ap₂ (λ (a b : ℕ). a ⊕ b) (as_old.rows i r j p q s) (as_share.rows i r j p q s));
-}
+-- ## Payloads
+pub read-table : (n w : ℕ) (payload : List ℕ) (table : Table) → table.width ≡ w → table.parties ≡ n →
+    length payload ≡ 16 * (4 * w * n) → table.rows ≡ each (length payload / 16) (λ k. record { 0 = key_in payload k }) →
+    IsTable n w (payload_entry n payload) table
+read-table n w payload table wide parties size rows =
+    let count : length payload / 16 ≡ 4 * w * n = omega arith in
+    let listed : table.rows ≡ each (4 * w * n) (λ k. record { 0 = key_in payload k }) =
+    rows ∙ ap (λ m. each {X = Key} m (λ k. record { 0 = key_in payload k })) count in record {
+      width = wide;
+      parties = parties;
+      count = ap length listed ∙ length-each (4 * w * n) (λ k. let key : Key = record { 0 = key_in payload k } in key);
+      rows = λ i r j p q s. key_at-each (4 * w * n) (key_in payload) table.rows (entry_place n i r j) listed (entry-inside n w i r j p q s);
+    }
+
+pub payload-tells : PayloadTells
+payload-tells n w entries table t small i r j p q s =
+    let inside = entry-inside n w i r j p q s in
+    let count = t.count in
+    keys-back table.rows (entry_place n i r j) small (omega arith) ∙ t.rows i r j p q s

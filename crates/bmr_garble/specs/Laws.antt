@@ -1,14 +1,16 @@
 -- What the parties' shares of products and of garbled tables recombine to, for any number of parties.
-use Rattle.std.specs.Prelude.{◌≡◌, ℕ, ◌<◌, bit_and}
+use Rattle.std.specs.Prelude.{◌≡◌, ℕ, ◌<◌, ◌^◌, bit_and}
 use Rattle.share_types.specs.Bits.{number}
 use Rattle.share_types.specs.Sums.{xor_to, each}
-use Rattle.share_types.specs.Keys.{◌⊕◌}
+use Rattle.share_types.specs.Keys.{◌⊕◌, key_at}
 use Rattle.share_types.specs.declared.records.BitTriple.{BitTriple}
 use Rattle.share_types.specs.declared.records.KeyBit.{KeyBit}
 use Rattle.bmr_keys.specs.Mask.{Mask}
 use Rattle.bmr_keys.specs.Wires.{AreTimes, AreKeyBits}
 use Rattle.bmr_garble.specs.Product.{opened_left, opened_right, product_share, AreBitTriples, product_times}
-use Rattle.bmr_garble.specs.Table.{share_entry, garbled_entry}
+use Rattle.bmr_keys.specs.Payload.{key_bytes}
+use Rattle.bmr_garble.specs.Table.{Entries, IsTable, share_entry, garbled_entry, payload_entry}
+use Rattle.bmr_garble.specs.declared.table.Table.{Table}
 
 -- with bit triples, and d and e what all parties opened of masks u and v, the parties' shares of the product XOR to
 -- the AND of the masks
@@ -37,3 +39,9 @@ SharesJoin =
     (i r j : ℕ) → j < n →
     xor_to n (λ p. share_entry p (offset p) gate (u p) (v p) (w p) (product p) i r j)
     ≡ garbled_entry n offset gate u v w x y z i r j
+
+-- the payload of a table tells its entries
+abbrev pub PayloadTells : Type 0
+PayloadTells =
+    (n w : ℕ) (entries : Entries) (table : Table) → IsTable n w entries table → ((k : ℕ) → key_at table.rows k < 2 ^ 128) →
+    (i r j : ℕ) → i < w → r < 4 → j < n → payload_entry n (key_bytes table.rows) i r j ≡ entries i r j

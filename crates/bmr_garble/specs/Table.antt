@@ -5,6 +5,7 @@ use Rattle.share_types.specs.Bits.{differ}
 use Rattle.share_types.specs.Sums.{xor_to}
 use Rattle.share_types.specs.Keys.{◌⊕◌, bit, times, key_at}
 use Rattle.bmr_keys.specs.Hiding.{hiding_key}
+use Rattle.bmr_keys.specs.Payload.{key_in}
 use Rattle.share_types.specs.declared.keys.Key.{Key}
 use Rattle.bmr_keys.specs.Mask.{Mask}
 use Rattle.bmr_keys.specs.declared.part.MaskPart.{MaskPart}
@@ -17,6 +18,10 @@ Entries = ℕ → ℕ → ℕ → ℕ
 -- the place of an entry in the list of a table's keys, with n owners
 abbrev pub entry_place : ℕ → ℕ → ℕ → ℕ → ℕ
 entry_place n i r j = (4 * i + r) * n + j
+
+-- the entries of a table in a payload of its keys
+abbrev pub payload_entry : ℕ → List ℕ → Entries
+payload_entry n payload i r j = key_in payload (entry_place n i r j)
 
 -- the table in memory has a width, n owners and these entries
 pub record IsTable (n w : ℕ) (entries : Entries) (table : Table) : Type 0 where

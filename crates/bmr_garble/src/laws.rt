@@ -1,7 +1,7 @@
 //! What the parties' shares of products and of garbled tables recombine to. A law is the contract of a function
 //! that does nothing.
 
-ghost use Rattle.bmr_garble.specs.Laws.{ProductRecombines, ProductTimesRecombine, SharesJoin};
+ghost use Rattle.bmr_garble.specs.Laws.{ProductRecombines, ProductTimesRecombine, SharesJoin, PayloadTells};
 
 /// The parties' `mask_close` gives shares of the AND of both masks.
 pub fn product_recombines()
@@ -16,4 +16,9 @@ pub fn product_times_recombine()
 /// The parties' shares of a table, joined, are the garbled table.
 pub fn shares_join()
     ensures { SharesJoin }
+{}
+
+/// The payload of a table tells its entries.
+pub fn payload_tells()
+    ensures { PayloadTells }
 {}

@@ -6,6 +6,6 @@ mod laws;
 mod product;
 mod table;
 
-pub use laws::{product_recombines, product_times_recombine, shares_join};
+pub use laws::{payload_tells, product_recombines, product_times_recombine, shares_join};
 pub use product::{mask_close, mask_open, product_close};
 pub use table::{Table, table_share};

@@ -3,10 +3,11 @@ ghost use Rattle.mot_base.specs.Limits.{most_width, most_parties};
 ghost use Rattle.share_types.specs.Keys.{◌⊕◌, bit, times, key_at};
 ghost use Rattle.bmr_keys.specs.Mask.{Mask, IsPart, owners_of};
 ghost use Rattle.bmr_garble.specs.Product.{AreShares};
-ghost use Rattle.bmr_garble.specs.Table.{Entries, IsTable, HaveShape, share_entry};
+ghost use Rattle.bmr_keys.specs.Payload.{key_bytes};
+ghost use Rattle.bmr_garble.specs.Table.{Entries, IsTable, HaveShape, share_entry, payload_entry};
 
-use bmr_keys::{MaskPart, add_offset, is_set, key_by, prf};
-use mot_base::{NoMemory, Party};
+use bmr_keys::{MaskPart, add_offset, is_set, key_by, key_in, key_payload, keys_in, prf};
+use mot_base::{NoMemory, Party, Payload};
 use share_types::{Key, Keys};
 use std::alloc::Global;
 
@@ -25,12 +26,51 @@ impl Table {
         requires { length share.now.rows ≡ length self.old.rows }
         ensures width { self.new.width ≡ self.old.width }
         ensures parties { self.new.parties ≡ self.old.parties }
+        ensures count { length self.new.rows ≡ length self.old.rows }
         ensures rows { (n w : ℕ) (mine others : Entries) → IsTable n w mine self.old → IsTable n w others share.now →
             IsTable n w (λ i r j. mine i r j ⊕ others i r j) self.new }
     {
         for (k, key) in share.rows.as_slice().iter().enumerate() {
             self.rows.xor_at(k, *key);
         }
+    }
+
+    /// Adds a party's share, by XOR, from the payload in which it came.
+    pub fn join_payload(&mut self, payload: &Payload)
+        requires { 16 * length self.old.rows ≤ length payload.now }
+        ensures width { self.new.width ≡ self.old.width }
+        ensures parties { self.new.parties ≡ self.old.parties }
+        ensures count { length self.new.rows ≡ length self.old.rows }
+        ensures rows { (n w : ℕ) (mine : Entries) → IsTable n w mine self.old →
+            IsTable n w (λ i r j. mine i r j ⊕ payload_entry n payload.now i r j) self.new }
+    {
+        for k in 0..self.rows.as_slice().len() {
+            self.rows.xor_at(k, key_in(payload, k));
+        }
+    }
+
+    /// The payload of a party's share: its keys in their order.
+    pub fn payload(&self, alloc: Global) -> Result<Payload, NoMemory>
+        ensures { IfOk result (λ payload. payload ≡ key_bytes self.now.rows) }
+    {
+        key_payload(alloc, self.rows.as_slice())
+    }
+
+    /// The share that a payload holds.
+    pub fn from_payload(
+        alloc: Global,
+        width: u8,
+        parties: u8,
+        payload: &Payload,
+    ) -> Result<Table, NoMemory>
+        requires { length payload.now ≡ 16 * (4 * width * parties) }
+        ensures { IfOk result (IsTable parties width (payload_entry parties payload.now)) }
+    {
+        Ok(Table {
+            width,
+            parties,
+            rows: keys_in(alloc, payload)?,
+        })
     }
 }
 

@@ -1,11 +1,9 @@
 -- Keys that were written are read back.
-use Rattle.std.proofs.Common.{◌≡◌, ℕ, zero, suc, ◌+◌, ◌-◌, ◌*◌, ◌^◌, ◌<◌, List, [], ◌∷◌, ◌++◌, length, drop, refl, sym, ap, ◌∙◌, arith, length-append}
+use Rattle.std.proofs.Common.{◌≡◌, ℕ, zero, suc, ◌+◌, ◌*◌, ◌^◌, ◌<◌, List, [], ◌∷◌, ◌++◌, length, drop, refl, sym, ap, ◌∙◌, arith, length-append}
 use Rattle.std.proofs.lemmas.List.{drop_at, drop-drop}
-use Rattle.byteorder.specs.Numbers.{big_number-reads_back, length-bytes_high_first}
-use Rattle.share_types.specs.Keys.{key_at}
-use Rattle.share_types.specs.declared.keys.Key.{Key}
+use Rattle.byteorder.specs.Numbers.{big_number-reads_back}
 use Rattle.bmr_keys.specs.Hiding.{first_key}
-use Rattle.bmr_keys.specs.Payload.{bytes_of_key, key_bytes, key_in, KeysHaveBytes, KeysReadBack}
+use Rattle.bmr_keys.specs.Payload.{bytes_of_key, key_bytes, KeysHaveBytes, KeysReadBack}
 
 length-key : (key : ℕ) → length (bytes_of_key key) ≡ 16
 unfolding bytes_of_key

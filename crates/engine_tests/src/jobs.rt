@@ -5,7 +5,7 @@ ghost use Rattle.mot_base.specs.Limits.{most_file_bytes, least_parties, most_par
 ghost use Rattle.circuit_tables.specs.Table.{AreNamedApart};
 ghost use Rattle.circuit_tables.specs.Values.{HaveWidths};
 ghost use Rattle.gate_tasks.specs.declared.own.Own.{Own};
-ghost use Rattle.local_engine.specs.Job.{IsJob};
+ghost use Rattle.local_run.specs.Job.{IsJob};
 
 use crate::conditions::is_job;
 use bristol_reader::{Bristol, read_bristol};

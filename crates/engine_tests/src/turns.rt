@@ -1,6 +1,6 @@
 //! What the engine reports of circuits whose outputs and digests are known.
 
-ghost use Rattle.local_engine.specs.Job.{IsJob};
+ghost use Rattle.local_run.specs.Job.{IsJob};
 
 use crate::jobs::{ALONE, Circuit, Parts, Place, ready};
 use dealer_files::DealerPart;
