@@ -85,7 +85,7 @@ outputs_width at [] = refl
 outputs_width at (w ∷ widths) =
     ap (λ (n : ℕ). w + n) (outputs_width (at + 1) widths) ∙ sym (sum_by-cons (λ n. n) w widths)
 
-length_outputs : (c : Circuit) (inputs : List (List Bool)) (made : List Bool) →
+pub length_outputs : (c : Circuit) (inputs : List (List Bool)) (made : List Bool) →
     IsBuilt c → AreWireBits c inputs made →
     length (output_bits c made) ≡ sum c.outputs
 length_outputs c inputs made built are =

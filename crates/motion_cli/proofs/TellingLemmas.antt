@@ -162,7 +162,7 @@ bristol_widths c plan p built keeps =
     all_asked p 0 c.outputs
     ∙ sym (told_width plan (map number none) p
     ∙ (ap (λ (es : List GateTold). length (bits_of_entries es p)) (keeps none made.0 widths made.1)
-    ∙ (all_told p (bristol_eval.output_bits c made.0) ∙ length_outputs c none made.0 built made.1)))
+    ∙ (all_told p (bristol_eval.output_bits c made.0) ∙ bristol_exists.length_outputs c none made.0 built made.1)))
 
 -- the outputs that a party is told have as many bits together as the gates that tell it their values
 pub told_widths : (c : Circuit) (p : ℕ) → IsWhole c → Keeps c (plan_of c) →
