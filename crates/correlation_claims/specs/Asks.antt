@@ -1,4 +1,5 @@
--- Asks for correlations of one kind: each is an interval of places, behind all that was asked for before it.
+-- Asks for correlations of one kind: each is an interval of places, behind all that was asked for
+-- before it.
 use Rattle.std.specs.Prelude.{◌≡◌, ℕ, ◌+◌, ◌<◌, ◌≤◌, Bool, true, false, cond, ◌&&◌, nat_lt, nat_le, List, [], ◌∷◌}
 use Rattle.correlation_claims.specs.declared.asks.Ask.{Ask}
 use Rattle.correlation_claims.specs.declared.asks.Range.{Range}
@@ -49,7 +50,8 @@ grants_in stock (a ∷ rest) = once (is_granted stock a) + grants_in stock rest
 -- the range of the last ask that was granted, or else the given one
 abbrev pub last_from : ℕ → Range → List Ask → Range
 last_from stock r [] = r
-last_from stock r (a ∷ rest) = last_from stock (cond (is_granted stock a) (range a.before a.count) r) rest
+last_from stock r (a ∷ rest) =
+    last_from stock (cond (is_granted stock a) (range a.before a.count) r) rest
 
 -- the range of the last ask that was granted, or the empty one
 abbrev pub last_grant : ℕ → List Ask → Range

@@ -22,21 +22,27 @@ abbrev pub view_asks : List Hand → List Ask
 view_asks [] = []
 view_asks (v ∷ vs) = v.asks ++ view_asks vs
 
--- whenever the rule of a counter holds, as it does between any two steps, the asks in the views of all its seats are
--- lawful, and their sum is the counter
+-- whenever the rule of a counter holds, as it does between any two steps, the asks in the views of
+-- all its seats are lawful, and their sum is the counter
 abbrev pub RuleIsLawful : Type 0
-RuleIsLawful = (key : Stock) (s : State (Unit {0}) Hand) → Lawful key s → AreLawful (view_asks s.views) × (count_all (view_asks s.views) ≡ slice_index s.words 0)
+RuleIsLawful = (key : Stock) (s : State (Unit {0}) Hand) → Lawful key s
+    → AreLawful (view_asks s.views) × (count_all (view_asks s.views) ≡ slice_index s.words 0)
 
 -- then two asks in two views do not meet
 abbrev pub ViewsDoNotMeet : Type 0
-ViewsDoNotMeet = (key : Stock) (s : State (Unit {0}) Hand) → Lawful key s → (i j : ℕ) (v w : Hand) → ¬ (i ≡ j) → get_elem? s.views i ≡ some v → get_elem? s.views j ≡ some w
+ViewsDoNotMeet = (key : Stock) (s : State (Unit {0}) Hand) → Lawful key s
+    → (i j : ℕ) (v w : Hand) → ¬ (i ≡ j)
+    → get_elem? s.views i ≡ some v → get_elem? s.views j ≡ some w
     → (a b : Ask) → Contains v.asks a → Contains w.asks b → DoNotMeet a b
 
 -- two asks at two places of a lawful list do not meet
 abbrev pub AsksDoNotMeet : Type 0
-AsksDoNotMeet = (asks : List Ask) → AreLawful asks → (i j : ℕ) (a b : Ask) → ¬ (i ≡ j) → get_elem? asks i ≡ some a → get_elem? asks j ≡ some b → DoNotMeet a b
+AsksDoNotMeet = (asks : List Ask) → AreLawful asks → (i j : ℕ) (a b : Ask) → ¬ (i ≡ j)
+    → get_elem? asks i ≡ some a → get_elem? asks j ≡ some b → DoNotMeet a b
 
 -- where the asks of all seats are lawful, two asks of two seats do not meet
 abbrev pub SeatsDoNotMeet : Type 0
-SeatsDoNotMeet = (kind : Kind) (seats : List ClaimSeat) → AreLawful (all_asks kind seats) → (i j : ℕ) (s t : ClaimSeat) → ¬ (i ≡ j) → get_elem? seats i ≡ some s → get_elem? seats j ≡ some t
-    → (a b : Ask) → Contains (asks_of s kind) a → Contains (asks_of t kind) b → DoNotMeet a b
+SeatsDoNotMeet = (kind : Kind) (seats : List ClaimSeat) → AreLawful (all_asks kind seats)
+    → (i j : ℕ) (s t : ClaimSeat) → ¬ (i ≡ j)
+    → get_elem? seats i ≡ some s → get_elem? seats j ≡ some t → (a b : Ask)
+    → Contains (asks_of s kind) a → Contains (asks_of t kind) b → DoNotMeet a b

@@ -8,10 +8,13 @@ use Rattle.correlation_claims.specs.declared.place.Place.{Place}
 
 -- the seat is one of this counter
 abbrev pub IsPlaceOf : Counter → Place → Type 0
-IsPlaceOf counter place = (place.seat.table_id ≡ counter.table.shared.table_id) × (place.seat.me.0.stock ≡ counter.stock)
+IsPlaceOf counter place =
+    (place.seat.table_id ≡ counter.table.shared.table_id)
+    × (place.seat.me.0.stock ≡ counter.stock)
 
 -- the seat is one of this counter, has so many parts and these asks
-pub record IsChairOf (counter : Counter) (parts : ℕ) (asks : List Ask) (chair : Seat (Unit {0}) Hand) : Type 0 where
+pub record IsChairOf (counter : Counter) (parts : ℕ) (asks : List Ask)
+    (chair : Seat (Unit {0}) Hand) : Type 0 where
   pub table : chair.table_id ≡ counter.table.shared.table_id
   pub stock : chair.me.0.stock ≡ counter.stock
   pub has_parts : chair.me.0.parts ≡ parts

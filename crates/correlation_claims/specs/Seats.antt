@@ -42,7 +42,12 @@ chair_at bench Key = bench.key
 
 -- the stock that the claims hand out
 abbrev pub stock_of : Claims → Needs
-stock_of claims = record { mult = claims.mult.stock; bit = claims.bit.stock; shared = claims.shared.stock; key = claims.key.stock }
+stock_of claims = record {
+  mult = claims.mult.stock;
+  bit = claims.bit.stock;
+  shared = claims.shared.stock;
+  key = claims.key.stock;
+}
 
 -- for how many seats the claims are
 abbrev pub seats_of : Claims → ℕ
@@ -75,7 +80,8 @@ IsNew seat = EachKind (λ kind. (asks_of seat kind ≡ []) × (refusal_of seat k
 
 -- nothing changes at the other kinds
 abbrev pub ChangesOnly : Kind → ClaimSeat → ClaimSeat → Type 0
-ChangesOnly kind old new = (other : Kind) → ¬ (other ≡ kind) → (asks_of new other ≡ asks_of old other) × (refusal_of new other ≡ refusal_of old other)
+ChangesOnly kind old new = (other : Kind) → ¬ (other ≡ kind)
+    → (asks_of new other ≡ asks_of old other) × (refusal_of new other ≡ refusal_of old other)
 
 abbrev pub parts_of : Bench → ℕ
 parts_of bench = bench.mult.me.0.parts
@@ -85,4 +91,5 @@ bench_asks bench kind = (chair_at bench kind).me.0.asks
 
 -- the bench has so many parts of each kind, and these asks
 abbrev pub IsBenchOf : Claims → ℕ → (Kind → List Ask) → Bench → Type 0
-IsBenchOf claims parts asks bench = EachKind (λ kind. IsChairOf (counter_at claims kind) parts (asks kind) (chair_at bench kind))
+IsBenchOf claims parts asks bench =
+    EachKind (λ kind. IsChairOf (counter_at claims kind) parts (asks kind) (chair_at bench kind))

@@ -15,8 +15,8 @@ pub struct Grant {
     pub range: Range,
 }
 
-/// What a job asked for of one kind: `count` correlations behind the `before` that were asked for earlier. Clauses
-/// speak of asks, and no value of this type is made.
+/// What a job asked for of one kind: `count` correlations behind the `before` that were asked for
+/// earlier. Clauses speak of asks, and no value of this type is made.
 #[derive(Clone, Copy)]
 pub struct Ask {
     pub job: u32,

@@ -9,8 +9,8 @@ use mot_base::NoMemory;
 use share_types::{Kind, Needs, TooFew};
 use std::alloc::Global;
 
-/// Hands out the correlations of a stock, over all threads and each at most once. A stock has as many of each kind as
-/// its `Needs` say, numbered from 0.
+/// Hands out the correlations of a stock, over all threads and each at most once. A stock has as many
+/// of each kind as its `Needs` say, numbered from 0.
 #[derive(Drop)]
 pub struct Claims {
     mult: Counter,
@@ -23,7 +23,8 @@ pub struct Claims {
     ghost key_seats: { key.table.shared.key.seats ≡ mult.table.shared.key.seats },
 }
 
-/// A seat at the claims, for one thread. Of the grants of each kind it keeps their number and the last range.
+/// A seat at the claims, for one thread. Of the grants of each kind it keeps their number and the last
+/// range.
 #[derive(Drop)]
 pub struct ClaimSeat {
     mult: Place,
@@ -161,18 +162,22 @@ impl Claims {
         }
     }
 
-    /// An ask of a job for `n` correlations of a kind. It is granted exactly where they fit behind all that was asked
-    /// for before, by any seat, and an ask that is refused counts among these too. A seat that was refused a kind
-    /// answers the same again for that kind, and an ask for none changes nothing.
+    /// An ask of a job for `n` correlations of a kind. It is granted exactly where they fit behind all
+    /// that was asked for before, by any seat, and an ask that is refused counts among these too. A
+    /// seat that was refused a kind answers the same again for that kind, and an ask for none changes
+    /// nothing. It takes no memory and waits for nobody.
     pub fn claim(&self, seat: &mut ClaimSeat, job: u32, kind: Kind, n: u32) -> Result<Range, TooFew>
         requires { IsSeatOf self.now seat.old }
         ensures seat { IsSeatOf self.now seat.new }
         ensures others { ChangesOnly kind seat.old seat.new }
         ensures zero { n ≡ 0 → (result ≡ Ok (range 0 0)) × (seat.new ≡ seat.old) }
-        ensures again { (few : TooFew) → 1 ≤ n → refusal_of seat.old kind ≡ Some few → (result ≡ Err few) × (seat.new ≡ seat.old) }
+        ensures again { (few : TooFew) → 1 ≤ n → refusal_of seat.old kind ≡ Some few
+            → (result ≡ Err few) × (seat.new ≡ seat.old) }
         ensures one { 1 ≤ n → refusal_of seat.old kind ≡ None → MatchResult result
-            (Grants (count_of (stock_of self.now) kind) job n (asks_of seat.old kind) (asks_of seat.new kind) (refusal_of seat.new kind))
-            (Refuses (count_of (stock_of self.now) kind) job kind n (asks_of seat.old kind) (asks_of seat.new kind) (refusal_of seat.new kind)) }
+            (Grants (count_of (stock_of self.now) kind) job n (asks_of seat.old kind)
+            (asks_of seat.new kind) (refusal_of seat.new kind))
+            (Refuses (count_of (stock_of self.now) kind) job kind n (asks_of seat.old kind)
+            (asks_of seat.new kind) (refusal_of seat.new kind)) }
     {
         match kind {
             Kind::Mult => seat.mult.ask(&self.mult, job, kind, n),
@@ -182,12 +187,14 @@ impl Claims {
         }
     }
 
-    /// Of each kind the least of the stock and all that was asked for. The seats are all of these claims.
+    /// Of each kind the least of the stock and all that was asked for. The seats are all of these
+    /// claims.
     pub fn close(self, seats: Vec<ClaimSeat>) -> Needs
         requires seats { All (IsSeatOf self) seats.items }
         requires all { length seats.items ≡ seats_of self }
         ensures lawful { EachKind (λ kind. AreLawful (all_asks kind seats.items)) }
-        ensures counts { EachKind (λ kind. count_of result kind ≡ min (count_of (stock_of self) kind) (count_all (all_asks kind seats.items))) }
+        ensures counts { EachKind (λ kind. count_of result kind
+            ≡ min (count_of (stock_of self) kind) (count_all (all_asks kind seats.items))) }
     {
         let bench = self.gather(seats);
         let Claims {
@@ -208,7 +215,8 @@ impl Claims {
     fn gather(&self, mut seats: Vec<ClaimSeat>) -> Bench
         requires some { 1 ≤ length seats.items }
         requires seats { All (IsSeatOf self.now) seats.items }
-        ensures { IsBenchOf self.now (length seats.items) (λ kind. all_asks kind seats.items) result }
+        ensures { IsBenchOf self.now (length seats.items)
+            (λ kind. all_asks kind seats.items) result }
     {
         let Some(last) = seats.pop() else {
             unreachable!()
@@ -225,7 +233,8 @@ impl Claims {
         requires bench { IsBenchOf self.now (parts_of bench.old) (bench_asks bench.old) bench.old }
         requires parts { 0 < parts_of bench.old }
         requires seat { IsSeatOf self.now seat }
-        ensures { IsBenchOf self.now (parts_of bench.old + 1) (λ kind. asks_of seat kind ++ bench_asks bench.old kind) bench.new }
+        ensures { IsBenchOf self.now (parts_of bench.old + 1)
+            (λ kind. asks_of seat kind ++ bench_asks bench.old kind) bench.new }
     {
         let ClaimSeat {
             mult,
@@ -259,8 +268,10 @@ impl Bench {
 
     /// The bench as a seat, where one part is left.
     fn into_seat(self) -> ClaimSeat
-        requires { EachKind (λ kind. ((chair_at self kind).me.0.parts ≡ 1) × ((chair_at self kind).me.0.asks ≡ []) × ((chair_at self kind).me.1 ≡ [])) }
-        ensures { EachKind (λ kind. ((place_at result kind).seat ≡ chair_at self kind) × ((place_at result kind).refused ≡ None)) }
+        requires { EachKind (λ kind. ((chair_at self kind).me.0.parts ≡ 1)
+            × ((chair_at self kind).me.0.asks ≡ []) × ((chair_at self kind).me.1 ≡ [])) }
+        ensures { EachKind (λ kind. ((place_at result kind).seat ≡ chair_at self kind)
+            × ((place_at result kind).refused ≡ None)) }
     {
         ClaimSeat {
             mult: Place::new(self.mult),

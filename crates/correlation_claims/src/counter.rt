@@ -9,8 +9,8 @@ use std::alloc::Global;
 use std::collections::LinkedList;
 use std::marker::{Brand, PhantomData};
 
-/// What a seat at one kind knows: the stock of the kind, its parts of the right to know all asks, and its own asks.
-/// No value of it is made.
+/// What a seat at one kind knows: the stock of the kind, its parts of the right to know all asks, and
+/// its own asks. No value of it is made.
 pub struct Hand {
     pub stock: u32,
     pub parts: u64,
@@ -110,7 +110,8 @@ impl Counter {
         requires chair { IsChairOf self.now seat.old.me.0.parts seat.old.me.0.asks seat.old }
         requires parts { 0 < seat.old.me.0.parts }
         requires other { IsChairOf self.now 1 other.me.0.asks other }
-        ensures { IsChairOf self.now (seat.old.me.0.parts + 1) (other.me.0.asks ++ seat.old.me.0.asks) seat.new }
+        ensures { IsChairOf self.now (seat.old.me.0.parts + 1)
+            (other.me.0.asks ++ seat.old.me.0.asks) seat.new }
     {
         self.table.shared.join_seat::<Parting>(seat, other);
     }

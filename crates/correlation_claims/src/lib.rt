@@ -1,4 +1,5 @@
-//! Correlations of one stock are handed out to jobs that run in several threads: each once, and without a lock.
+//! Correlations of one stock are handed out to jobs that run in several threads: each once, and
+//! without a lock.
 #![tactic(auto)]
 
 mod asks;

@@ -62,10 +62,13 @@ impl Place {
         requires place { IsPlaceOf counter.now self.old }
         ensures place { IsPlaceOf counter.now self.new }
         ensures zero { n ≡ 0 → (result ≡ Ok (range 0 0)) × (self.new ≡ self.old) }
-        ensures again { (few : TooFew) → 1 ≤ n → self.old.refused ≡ Some few → (result ≡ Err few) × (self.new ≡ self.old) }
+        ensures again { (few : TooFew) → 1 ≤ n → self.old.refused ≡ Some few
+            → (result ≡ Err few) × (self.new ≡ self.old) }
         ensures one { 1 ≤ n → self.old.refused ≡ None → MatchResult result
-            (Grants counter.now.stock job n self.old.seat.me.0.asks self.new.seat.me.0.asks self.new.refused)
-            (Refuses counter.now.stock job kind n self.old.seat.me.0.asks self.new.seat.me.0.asks self.new.refused) }
+            (Grants counter.now.stock job n self.old.seat.me.0.asks
+            self.new.seat.me.0.asks self.new.refused)
+            (Refuses counter.now.stock job kind n self.old.seat.me.0.asks
+            self.new.seat.me.0.asks self.new.refused) }
     {
         if n == 0 {
             return Ok(Range { first: 0, count: 0 });
@@ -76,7 +79,7 @@ impl Place {
         self.ask_more::<Brand>(counter, job, kind, n)
     }
 
-    /// One ask of a seat that was not refused. The asks of a seat tell whose they are in clauses alone.
+    /// One ask of a seat that was not refused. Whose ask it is stands in clauses alone.
     fn ask_more<J: Asking>(
         &mut self,
         counter: &Counter,
@@ -90,8 +93,10 @@ impl Place {
         requires some { 1 ≤ n }
         ensures place { IsPlaceOf counter.now self.new }
         ensures one { MatchResult result
-            (Grants counter.now.stock _job n self.old.seat.me.0.asks self.new.seat.me.0.asks self.new.refused)
-            (Refuses counter.now.stock _job kind n self.old.seat.me.0.asks self.new.seat.me.0.asks self.new.refused) }
+            (Grants counter.now.stock _job n self.old.seat.me.0.asks
+            self.new.seat.me.0.asks self.new.refused)
+            (Refuses counter.now.stock _job kind n self.old.seat.me.0.asks
+            self.new.seat.me.0.asks self.new.refused) }
     {
         let stock = counter.stock;
         let before = counter.add::<J>(&mut self.seat, n);
