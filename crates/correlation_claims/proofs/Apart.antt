@@ -1,10 +1,9 @@
 -- Asks that are lawful do not meet.
-use Rattle.std.proofs.Common.{◌≡◌, ◌≢◌, ℕ, suc, ◌+◌, ◌<◌, ◌≤◌, ◌^◌, Bool, true, false, cond, ltb, List, [], ◌∷◌, ◌++◌, length, get_or, refl, sym, ap, ◌∙◌, subst, arith}
+use Rattle.std.proofs.Common.{◌≡◌, ℕ, suc, ◌+◌, ◌<◌, ◌≤◌, ◌^◌, true, ltb, List, [], ◌∷◌, get_or, refl, sym, ap, ◌∙◌, arith}
 use Rattle.std.proofs.lemmas.List.Elements.{All-nil, All-append, All-weaker}
 use Rattle.std.specs.List.{All, Contains}
 use mathlib.Core.Option.{some}
 use lib.ListN.{get_elem?}
-use Rattle.atomic_table.specs.Table.{State}
 use Rattle.atomic_table.proofs.Lists.{at_index}
 use Rattle.share_types.specs.declared.needs.Kind.{Kind}
 use Rattle.correlation_claims.specs.declared.asks.Ask.{Ask}
@@ -12,10 +11,9 @@ use Rattle.correlation_claims.specs.declared.claims.ClaimSeat.{ClaimSeat}
 use Rattle.correlation_claims.specs.declared.counter.Hand.{Hand}
 use Rattle.correlation_claims.specs.declared.counter.Stock.{Stock}
 use Rattle.correlation_claims.specs.Asks.{once, has, covers, count_all}
-use Rattle.correlation_claims.specs.Lawful.{AreLawful}
-use Rattle.correlation_claims.specs.Laws.{DoNotMeet, view_asks, RuleIsLawful, ViewsDoNotMeet, AsksDoNotMeet, SeatsDoNotMeet}
+use Rattle.correlation_claims.specs.Laws.{view_asks, RuleIsLawful, ViewsDoNotMeet, AsksDoNotMeet, SeatsDoNotMeet}
 use Rattle.correlation_claims.specs.Seats.{asks_of, all_asks}
-use Rattle.correlation_claims.specs.Steps.{total, Fits, Lawful}
+use Rattle.correlation_claims.specs.Steps.{total, Fits}
 use Rattle.correlation_claims.proofs.Counts.{covers-append, count_all-append, at_most_one}
 use Rattle.correlation_claims.proofs.Totals.{one_le, two_le}
 

@@ -1,8 +1,7 @@
 -- What a seat keeps beside its asks stays true with one ask more.
-use Rattle.std.proofs.Common.{◌≡◌, ℕ, suc, ◌+◌, ◌<◌, ◌≤◌, true, false, leb, List, [], ◌∷◌, ◌++◌, length, refl, sym, ap, ◌∙◌, subst, arith}
+use Rattle.std.proofs.Common.{◌≡◌, ℕ, ◌+◌, ◌<◌, ◌≤◌, true, false, leb, List, [], ◌∷◌, length, refl, sym, subst, arith}
 use Rattle.std.proofs.lemmas.Bool.Decides.{nat_tests}
 use Rattle.correlation_claims.specs.declared.asks.Ask.{Ask}
-use Rattle.correlation_claims.specs.declared.asks.Range.{Range}
 use Rattle.correlation_claims.specs.declared.counter.Hand.{Hand}
 use Rattle.correlation_claims.specs.Asks.{ask, range, once, is_granted, refusals_in, grants_in, last_grant}
 use Rattle.correlation_claims.specs.Steps.{more}

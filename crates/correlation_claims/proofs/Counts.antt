@@ -1,11 +1,9 @@
 -- What one ask more, or the asks of two seats together, count.
-use Rattle.std.proofs.Common.{◌≡◌, ℕ, suc, ◌+◌, ◌*◌, ◌^◌, ◌<◌, ◌≤◌, Bool, true, false, cond, ◌&&◌, leb, ltb, List, [], ◌∷◌, ◌++◌, length, refl, sym, ap, ◌∙◌, arith}
+use Rattle.std.proofs.Common.{◌≡◌, ℕ, ◌+◌, ◌≤◌, Bool, true, false, cond, ◌&&◌, leb, ltb, List, [], ◌∷◌, ◌++◌, refl, arith}
 use Rattle.std.proofs.lemmas.Bool.Decides.{nat_tests}
-use Rattle.std.specs.Prelude.{nat_lt, nat_le, All}
-use Rattle.std.proofs.lemmas.List.Elements.{All-head, All-tail}
 use Rattle.correlation_claims.specs.declared.asks.Ask.{Ask}
 use Rattle.correlation_claims.specs.declared.asks.Range.{Range}
-use Rattle.correlation_claims.specs.Asks.{ask, range, once, has, is_granted, covers, count_all, count_refused, refusals_in, grants_in, last_from}
+use Rattle.correlation_claims.specs.Asks.{range, once, is_granted, covers, count_all, count_refused, refusals_in, grants_in, last_from}
 
 pub covers-append : (x : ℕ) (xs ys : List Ask) → covers x (xs ++ ys) ≡ covers x xs + covers x ys
 covers-append x [] ys = omega arith

@@ -1,6 +1,6 @@
 -- Asks for correlations of one kind: each is an interval of places, behind all that was asked for
 -- before it.
-use Rattle.std.specs.Prelude.{◌≡◌, ℕ, ◌+◌, ◌<◌, ◌≤◌, Bool, true, false, cond, ◌&&◌, nat_lt, nat_le, List, [], ◌∷◌}
+use Rattle.std.specs.Prelude.{ℕ, ◌+◌, Bool, cond, ◌&&◌, nat_lt, nat_le, List, [], ◌∷◌}
 use Rattle.correlation_claims.specs.declared.asks.Ask.{Ask}
 use Rattle.correlation_claims.specs.declared.asks.Range.{Range}
 

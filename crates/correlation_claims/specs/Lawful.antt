@@ -1,5 +1,5 @@
 -- When asks of one kind are lawful.
-use Rattle.std.specs.Prelude.{◌≡◌, ℕ, ◌<◌, ◌≤◌, nat_lt, List, All}
+use Rattle.std.specs.Prelude.{◌≡◌, ℕ, ◌≤◌, nat_lt, List, All}
 use Rattle.correlation_claims.specs.declared.asks.Ask.{Ask}
 use Rattle.correlation_claims.specs.Asks.{once, covers, count_all}
 

@@ -1,5 +1,5 @@
 -- The claims, and the seats at them, seen kind by kind.
-use Rattle.std.specs.Prelude.{◌≡◌, ℕ, ◌+◌, List, [], ◌∷◌, ◌++◌, Option, None}
+use Rattle.std.specs.Prelude.{◌≡◌, ℕ, List, [], ◌∷◌, ◌++◌, Option, None}
 use Rattle.atomic_table.specs.declared.shared.Seat.{Seat}
 use Rattle.share_types.specs.declared.needs.Kind.{Kind}
 use Rattle.share_types.specs.declared.needs.Kind.TheVariants.{Mult, Bit, Shared, Key}
@@ -12,7 +12,6 @@ use Rattle.correlation_claims.specs.declared.claims.Claims.{Claims}
 use Rattle.correlation_claims.specs.declared.counter.Counter.{Counter}
 use Rattle.correlation_claims.specs.declared.counter.Hand.{Hand}
 use Rattle.correlation_claims.specs.declared.place.Place.{Place}
-use Rattle.correlation_claims.specs.Asks.{grants_in, last_grant}
 use Rattle.correlation_claims.specs.Places.{IsPlaceOf, IsChairOf}
 
 -- it holds of each kind

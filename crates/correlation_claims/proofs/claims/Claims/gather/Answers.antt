@@ -1,4 +1,4 @@
-use Rattle.std.proofs.Common.{◌≡◌, Some, ap, ◌∙◌, arith}
+use Rattle.std.proofs.Common.{Some, arith}
 use Rattle.std.proofs.lemmas.List.Elements.{All-pop}
 use Rattle.correlation_claims.specs.Seats.{IsSeatOf, asks_of}
 use Rattle.correlation_claims.proofs.Benches.{is_bench, own, first_asks, more_asks, length-snoc}

@@ -1,4 +1,4 @@
-use Rattle.std.proofs.Common.{◌≡◌, ℕ, ◌+◌, ◌<◌, ◌++◌, length}
+use Rattle.std.proofs.Common.{◌≡◌, ◌+◌, ◌<◌, ◌++◌, length}
 use Rattle.std.specs.List.{All}
 use Rattle.correlation_claims.specs.Seats.{EachKind, IsBenchOf, IsSeatOf, all_asks, bench_asks, parts_of}
 use Rattle.correlation_claims.proofs.claims.Claims.gather.Given as goal

@@ -1,5 +1,3 @@
-use Rattle.std.proofs.Common.{◌∷◌, [], ◌++◌, sym, subst}
-use Rattle.std.specs.List.{All}
 use Rattle.std.proofs.lemmas.List.Elements.{All-push, All-same}
 use Rattle.correlation_claims.specs.Seats.{IsSeatOf, IsNew}
 use Rattle.correlation_claims.proofs.Benches.{is_seat, is_new}

@@ -1,4 +1,4 @@
-use Rattle.std.proofs.Common.{◌≡◌, ◌+◌, ◌<◌, ◌≤◌, sym, ap, ◌∙◌, arith, rules}
+use Rattle.std.proofs.Common.{◌+◌, ◌<◌, ◌≤◌, sym, ap, ◌∙◌, arith}
 use Rattle.correlation_claims.proofs.Asked.{refused, granted, grants_in-le}
 use Rattle.correlation_claims.proofs.place.Place.ask_more.Goals as goal
 
