@@ -32,13 +32,13 @@ module _ {E : Type 0} (items : ℕ) (edges : List Edge) (means : ℕ → E → T
   took_once x =
       let k = W.knows_takers items edges c.state.words c.state.views c.id v every c.at c.kept.words x in
       dite (dec_lt x items)
-        (λ low.
-          let t = c.kept.words.taken x low in
-          let s = once_small (eqb (word_at c.state.words x) taken_word) in
-          let a = all x low in
-          let one : times x v.took ≡ 1 = omega arith in
-          one ∙ sym (ap once (lt-ltb x items low)))
-        (λ high. (c.kept.words.each c.id v c.at).known x (omega arith) ∙ sym (ap once (ltb_off x items (omega arith))))
+      (λ low.
+      let t = c.kept.words.taken x low in
+      let s = once_small (eqb (word_at c.state.words x) taken_word) in
+      let a = all x low in
+      let one : times x v.took ≡ 1 = omega arith in
+      one ∙ sym (ap once (lt-ltb x items low)))
+      (λ high. (c.kept.words.each c.id v c.at).known x (omega arith) ∙ sym (ap once (ltb_off x items (omega arith))))
 
   pub closed_ends : IsForward items edges → Complete edges v → AreEnds edges means values
   closed_ends dag complete e within end =

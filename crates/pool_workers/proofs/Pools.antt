@@ -42,13 +42,13 @@ did_more false item v w t x = let c = ap (times x) t in omega arith
 pub none_before : (items : ℕ) (edges : List Edge) (item : ℕ) (v : View) → IsForward items edges → item < items → Complete edges v → ((x : ℕ) → x < item → 1 ≤ times x v.took) → missing item 0 edges (λ e. times e v.gave) ≡ 0
 none_before items edges item v dag is_item complete all =
     none_missing item 0 edges (λ e. times e v.gave) (λ d within t.
-      let few = dag.few in
-      let f = dag.targets d within (λ z. omega arith) in
-      let low : source_at edges d < item = subst (λ (n : ℕ). source_at edges d < n) t f.0 in
-      let a = all (source_at edges d) low in
-      let c = complete d within in
-      let same : d ≡ 0 + d = omega arith in
-      subst (λ (n : ℕ). 1 ≤ times n v.gave) same (omega arith))
+    let few = dag.few in
+    let f = dag.targets d within (λ z. omega arith) in
+    let low : source_at edges d < item = subst (λ (n : ℕ). source_at edges d < n) t f.0 in
+    let a = all (source_at edges d) low in
+    let c = complete d within in
+    let same : d ≡ 0 + d = omega arith in
+    subst (λ (n : ℕ). 1 ≤ times n v.gave) same (omega arith))
 
 pub complete_both : (edges : List Edge) (v w : View) → Complete edges v → Complete edges w → Complete edges (together v w)
 complete_both edges v w c d e within =

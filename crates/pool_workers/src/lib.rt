@@ -2,6 +2,7 @@
 //! for each item with the number of edges to it that are not given yet, and a slot for the value on each edge.
 #![tactic(auto)]
 
+mod deque;
 mod hints;
 mod item;
 mod table;
