@@ -1,0 +1,6 @@
+use Rattle.std.proofs.Common.{◌≡◌, ◌≢◌, ℕ, ◌+◌, ◌<◌, ◌≤◌, ◌%◌, rules, List, [], ◌∷◌, ◌++◌, length, get_or, take, drop, Option, Some, None, refl, sym, ap, ◌∙◌, subst, arith}
+use Rattle.pool_workers.proofs.Pools.{items-append}
+use Rattle.pool_workers.proofs.deque.BenchHints.put.Goals as goal
+
+pub push_as-requires-clause-pushes : goal.push_as-requires-clause-pushes
+push_as-requires-clause-pushes g c = λ items views all at. (tt, items-append g.L.Limit.limit items (c.args.item ∷ []) all (c.requires, tt), (c.requires, tt))

@@ -1,0 +1,5 @@
+pub mod Sums
+pub mod Words
+pub mod Slots
+pub mod Steps
+pub mod Shifts
