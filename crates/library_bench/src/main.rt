@@ -8,6 +8,7 @@
 
 mod dealer;
 mod floor;
+mod keys;
 mod messages;
 mod plans;
 mod shares;
@@ -20,10 +21,12 @@ use std::env;
 use std::time::Instant;
 
 /// What can be done, by name. A work is given how many times it is done, and gives a number that shows it.
-static WORKS: [(&str, Work); 15] = [
+static WORKS: [(&str, Work); 17] = [
     ("words", Work::Words),
     ("shares-of-two", Work::SharesOfTwo),
     ("shares-of-eight", Work::SharesOfEight),
+    ("hidden-keys", Work::HiddenKeys),
+    ("garbled-ands", Work::GarbledAnds),
     ("graph", Work::Graph),
     ("drain", Work::Drain),
     ("messages", Work::Messages),
@@ -46,6 +49,10 @@ enum Work {
     SharesOfTwo,
     /// The same among eight.
     SharesOfEight,
+    /// As many keys are hidden as by so many garbled ANDs of one bit and three parties.
+    HiddenKeys,
+    /// So many ANDs of one bit are garbled by three parties, and evaluated by each.
+    GarbledAnds,
     /// A graph of so many items and twice as many edges is made.
     Graph,
     /// The same graph is made, and its items are turned by a work that only counts.
@@ -79,6 +86,8 @@ impl Work {
             Work::Words => Ok(tapes::read_words(size)),
             Work::SharesOfTwo => Ok(shares::share_among(alloc, size, 2)?),
             Work::SharesOfEight => Ok(shares::share_among(alloc, size, 8)?),
+            Work::HiddenKeys => Ok(keys::hide(size)),
+            Work::GarbledAnds => Ok(keys::garble(alloc, size)?),
             Work::Graph => Ok(turns::make_graph(alloc, size)?),
             Work::Drain => Ok(turns::drain_graph(alloc, size)?),
             Work::Messages => Ok(messages::deliver_all(alloc, size)?),
