@@ -6,6 +6,7 @@
 //! output, one line a work, and how long it took to the error output.
 #![tactic(auto)]
 
+mod claims;
 mod dealer;
 mod floor;
 mod keys;
@@ -18,10 +19,11 @@ mod turns;
 use anyhow::{Error, anyhow};
 use std::alloc::Global;
 use std::env;
+use std::thread::Threads;
 use std::time::Instant;
 
 /// What can be done, by name. A work is given how many times it is done, and gives a number that shows it.
-static WORKS: [(&str, Work); 17] = [
+static WORKS: [(&str, Work); 19] = [
     ("words", Work::Words),
     ("shares-of-two", Work::SharesOfTwo),
     ("shares-of-eight", Work::SharesOfEight),
@@ -39,6 +41,8 @@ static WORKS: [(&str, Work); 17] = [
     ("read-keys", Work::ReadKeys),
     ("read-circuit", Work::ReadCircuit),
     ("lower-circuit", Work::LowerCircuit),
+    ("claims-by-one", Work::ClaimsByOne),
+    ("claims-by-four", Work::ClaimsByFour),
 ];
 
 #[derive(Clone, Copy)]
@@ -77,11 +81,15 @@ enum Work {
     ReadCircuit,
     /// The same circuit is read and lowered, and its messages to one party and all offsets are gone through.
     LowerCircuit,
+    /// So many correlations are claimed one after another, by one thread.
+    ClaimsByOne,
+    /// So many are claimed in all, by four threads.
+    ClaimsByFour,
 }
 
 impl Work {
     /// Does the work that many times.
-    fn run(self, alloc: Global, size: u32) -> Result<u64, Error> {
+    fn run<R: Threads + Sync>(self, threads: &R, alloc: Global, size: u32) -> Result<u64, Error> {
         match self {
             Work::Words => Ok(tapes::read_words(size)),
             Work::SharesOfTwo => Ok(shares::share_among(alloc, size, 2)?),
@@ -100,6 +108,8 @@ impl Work {
             Work::ReadKeys => Ok(dealer::read_keys(alloc, size)?),
             Work::ReadCircuit => Ok(plans::read(alloc, size)?),
             Work::LowerCircuit => Ok(plans::lower(alloc, size)?),
+            Work::ClaimsByOne => Ok(claims::claim(threads, alloc, size, 1)?),
+            Work::ClaimsByFour => Ok(claims::claim(threads, alloc, size, 4)?),
         }
     }
 }
@@ -112,16 +122,22 @@ fn main(rt: HostRuntime) -> Result<(), Error> {
     let size: u32 = size.parse()?;
     for (name, work) in &WORKS {
         if names.is_empty() || names.iter().any(|asked| asked.as_str() == *name) {
-            time(&rt, name, *work, size)?;
+            time(&rt, &rt, name, *work, size)?;
         }
     }
     Ok(())
 }
 
 /// Does a work, and says what came of it and how long it took.
-fn time(rt: &HostRuntime, name: &str, work: Work, size: u32) -> Result<(), Error> {
+fn time<R: Threads + Sync>(
+    rt: &HostRuntime,
+    threads: &R,
+    name: &str,
+    work: Work,
+    size: u32,
+) -> Result<(), Error> {
     let start = Instant::now(rt)?;
-    let outcome = work.run(rt.alloc(), size)?;
+    let outcome = work.run(threads, rt.alloc(), size)?;
     let time = start.elapsed(rt)?;
     println!(rt; "{name} {size} {outcome}")?;
     eprintln!(rt; "{name} {size}: {} ms", time.as_millis())?;
