@@ -5,6 +5,7 @@
 mod deque;
 mod hints;
 mod item;
+mod shift;
 mod table;
 mod view;
 
