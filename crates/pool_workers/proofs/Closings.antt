@@ -1,16 +1,14 @@
 -- A pool that was taken apart.
-use Rattle.std.proofs.Common.{◌≡◌, ◌≢◌, ℕ, zero, suc, ◌+◌, ◌<◌, ◌≤◌, Bool, true, false, eqb, List, [], ◌∷◌, ◌++◌, length, map, get_or, take, drop, Option, Some, None, refl, sym, ap, ◌∙◌, subst, arith}
+use Rattle.std.proofs.Common.{◌≡◌, ℕ, ◌<◌, ◌≤◌, Bool, true, false, eqb, List, Option, Some, refl, sym, ap, ◌∙◌, arith}
 use Rattle.std.specs.Prelude.{nat_lt}
 use mathlib.Core.Logic.{dite}
-use mathlib.Core.Option.{some}
-use lib.ListN.{get_elem?}
-use native.Mathlib.Decide.{ℕ_discrete, dec_lt}
+use native.Mathlib.Decide.{dec_lt}
 use Rattle.std.proofs.lemmas.Bool.{lt-ltb, ltb-true}
 use Rattle.std.proofs.Common.{ltb}
 use Rattle.turn_core.specs.declared.edge.Edge.{Edge}
 use Rattle.pool_workers.specs.declared.view.View.{View}
-use Rattle.pool_workers.specs.Sums.{once, times, source_at, target_at, IsForward}
-use Rattle.pool_workers.specs.Words.{all_parts, taken_word, takers, givers, word_at}
+use Rattle.pool_workers.specs.Sums.{once, times, source_at, IsForward}
+use Rattle.pool_workers.specs.Words.{all_parts, taken_word, takers, word_at}
 use Rattle.pool_workers.specs.Steps.{Complete}
 use Rattle.pool_workers.specs.Shifts.{Closes, AreEnds}
 use Rattle.pool_workers.proofs.WordSteps as W

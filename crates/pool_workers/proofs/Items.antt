@@ -1,22 +1,19 @@
 -- One item: its inputs are read, it is run, and its outputs are given.
-use Rattle.std.proofs.Common.{◌≡◌, ◌≢◌, ℕ, zero, suc, ◌+◌, ◌<◌, ◌≤◌, ◌⊎◌, inl, inr, Bool, cond, eqb, List, [], ◌∷◌, ◌++◌, length, map, get_or, take, drop, Option, Some, None, refl, sym, ap, ap₂, ◌∙◌, subst, arith, append_assoc}
+use Rattle.std.proofs.Common.{◌≡◌, ◌≢◌, ℕ, zero, suc, ◌+◌, ◌<◌, ◌≤◌, inl, inr, Bool, cond, List, [], ◌∷◌, ◌++◌, length, map, get_or, take, drop, Option, Some, None, refl, sym, ap, ap₂, ◌∙◌, subst, arith, append_assoc}
 use Rattle.std.proofs.Math.Seq.{drop-cons}
-use Rattle.std.proofs.lemmas.Bool.{eq-eqb, ne_eqb}
+use Rattle.std.proofs.lemmas.Bool.{ne_eqb}
 use Rattle.std.proofs.lemmas.List.{append-nil, take_more, take_all, take-append-drop, length-map, length-drop}
 use mathlib.Core.Logic.{dite}
 use native.Mathlib.Decide.{ℕ_discrete, dec_lt}
 use Rattle.atomic_table.specs.Table.{Me, rest}
 use Rattle.turn_core.specs.declared.edge.Edge.{Edge}
-use Rattle.turn_core.specs.Graph.{places}
 use Rattle.turn_core.proofs.Places.{places-each, places-short}
 use Rattle.task_pool.specs.Meanings.{AreMeanings}
-use Rattle.task_pool.proofs.Moves.{as_many}
 use Rattle.pool_workers.specs.declared.view.View.{View}
-use Rattle.pool_workers.specs.Sums.{once, times, missing, source_at, target_at, IsTarget, IsForward, incoming_of, outgoing_of}
+use Rattle.pool_workers.specs.Sums.{times, missing, source_at, target_at, IsForward, incoming_of, outgoing_of}
 use Rattle.pool_workers.specs.Words.{taken_word, all_parts, view, left, with_item, with_edge}
-use Rattle.pool_workers.specs.Steps.{keys_of, held, Inputs, Taking, Holding, empties, with_edges, Complete, Agree, IsIdle, Tried, MayGive, IsTop}
-use Rattle.pool_workers.proofs.Counts.{once_same, once_other, times-append, times-snoc, times_incoming, times_outgoing, missing-none, none_missing}
-use Rattle.pool_workers.proofs.WordSteps as W
+use Rattle.pool_workers.specs.Steps.{keys_of, held, Taking, Holding, empties, with_edges, Complete, IsIdle, MayGive, IsTop}
+use Rattle.pool_workers.proofs.Counts.{once_same, times-append, times-snoc, times_outgoing}
 
 pub meanings-snoc : {E : Type 0} (means : ℕ → E → Type 0) (es : List ℕ) (vs : List E) (e : ℕ) (v : E) → AreMeanings means es vs → means e v → AreMeanings means (es ++ e ∷ []) (vs ++ v ∷ [])
 meanings-snoc means [] [] e v are m = (m, tt)

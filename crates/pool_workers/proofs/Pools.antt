@@ -1,16 +1,14 @@
 -- Workers side by side, and the last pass.
-use Rattle.std.proofs.Common.{◌≡◌, ◌≢◌, ℕ, zero, suc, ◌+◌, ◌<◌, ◌≤◌, ◌⊎◌, Bool, true, false, List, [], ◌∷◌, ◌++◌, length, map, get_or, take, drop, Option, Some, None, Vec, Global, refl, sym, ap, ◌∙◌, subst, arith}
-use mathlib.Core.Logic.{dite}
-use native.Mathlib.Decide.{ℕ_discrete, dec_lt}
+use Rattle.std.proofs.Common.{◌≡◌, ℕ, ◌+◌, ◌<◌, ◌≤◌, Bool, true, false, List, [], ◌∷◌, ◌++◌, Option, Vec, Global, sym, ap, ◌∙◌, subst, arith}
 use Rattle.atomic_table.specs.Table.{Me}
 use Rattle.atomic_table.specs.Seated.{TableId}
 use Rattle.atomic_table.specs.declared.shared.Seat.{Seat}
 use Rattle.turn_core.specs.declared.edge.Edge.{Edge}
 use Rattle.pool_workers.specs.declared.view.View.{View}
-use Rattle.pool_workers.specs.Sums.{once, times, times_in, missing, source_at, target_at, IsForward}
-use Rattle.pool_workers.specs.Words.{view, together, all_parts}
+use Rattle.pool_workers.specs.Sums.{times, times_in, missing, source_at, IsForward}
+use Rattle.pool_workers.specs.Words.{together}
 use Rattle.pool_workers.specs.Steps.{Complete, IsIdle, Tried}
-use Rattle.pool_workers.specs.Shifts.{HasWorked, IsReady, lists, AreItems}
+use Rattle.pool_workers.specs.Shifts.{HasWorked, lists, AreItems}
 use Rattle.pool_workers.proofs.Counts.{times-append, times-snoc, none_missing}
 
 pub items-split : (n : ℕ) (xs ys : List ℕ) → AreItems n (xs ++ ys) → AreItems n xs × AreItems n ys

@@ -1,8 +1,8 @@
 -- The rule of words and slots is kept by each step.
-use Rattle.std.proofs.Common.{◌≡◌, ◌≢◌, ℕ, zero, suc, ◌+◌, ◌-◌, ◌<◌, ◌≤◌, ◌%◌, ◌⊎◌, inl, inr, ⊎_elim, Bool, true, false, cond, eqb, List, [], ◌∷◌, ◌++◌, length, map, get_or, set, replicate, Option, Some, None, refl, sym, ap, ap₂, ◌∙◌, subst, arith, append_assoc}
+use Rattle.std.proofs.Common.{◌≡◌, ℕ, zero, suc, ◌+◌, ◌<◌, ◌≤◌, ◌%◌, ◌⊎◌, inl, inr, ⊎_elim, Bool, eqb, List, [], ◌∷◌, ◌++◌, length, map, get_or, set, replicate, Option, Some, None, refl, sym, ap, ◌∙◌, subst, arith}
 use Rattle.std.specs.Prelude.{min}
-use Rattle.std.proofs.lemmas.Bool.{eqb-true, eq-eqb, ne_eqb}
-use Rattle.std.proofs.lemmas.List.{length-set, get_or-set_same, get_or-set_other, append-nil, length-replicate, length-map}
+use Rattle.std.proofs.lemmas.Bool.{eq-eqb, ne_eqb}
+use Rattle.std.proofs.lemmas.List.{length-set, length-replicate, length-map}
 use mathlib.Core.Logic.{dite}
 use mathlib.Core.Option as M
 use native.Mathlib.Decide.{ℕ_discrete, dec_lt}
@@ -10,15 +10,14 @@ use mathlib.Core.Option.{some, none, some-injective, some-ne-none}
 use lib.ListN.{get_elem?}
 use prog.Atomic.{either}
 use Rattle.atomic_table.specs.Table.{State, Me, Act, keeps, takes, gives, chain, rest, carried_after, homes_after, Valid, stepped, Allows, Splits, Joins, opening}
-use Rattle.atomic_table.proofs.Lists.{set_here, set_else, set_again, at_set}
+use Rattle.atomic_table.proofs.Lists.{set_here, set_else, set_again}
 use Rattle.turn_core.specs.declared.edge.Edge.{Edge}
-use Rattle.turn_core.specs.Graph.{places}
 use Rattle.turn_core.proofs.Places.{places-short}
 use Rattle.pool_workers.specs.declared.view.View.{View}
-use Rattle.pool_workers.specs.Sums.{once, times, missing, source_at, target_at, IsTarget, IsForward, incoming_of, outgoing_of}
-use Rattle.pool_workers.specs.Words.{AreAtStart, taken_word, all_parts, view, total, takers, givers, left, word_at, Fair, Words, with_item, with_edge, less_one_part, one_part, together, spent}
+use Rattle.pool_workers.specs.Sums.{once, times, missing, source_at, target_at, IsForward, incoming_of, outgoing_of}
+use Rattle.pool_workers.specs.Words.{AreAtStart, taken_word, all_parts, view, takers, givers, left, word_at, Fair, Words, with_item, with_edge, less_one_part, one_part, together, spent}
 use Rattle.pool_workers.specs.Slots.{Cell, Kept}
-use Rattle.pool_workers.specs.Steps.{MayGive, keys_of, held, Inputs, Taking, Giving, Returning}
+use Rattle.pool_workers.specs.Steps.{MayGive, keys_of, Inputs, Taking, Giving, Returning}
 use Rattle.pool_workers.proofs.Totals.{total-set, total-snoc, one_le}
 use Rattle.pool_workers.proofs.Counts.{once_same, once_other, times-append, times-snoc, missing-none, none_missing, missing_all, set_self, times_incoming, times_outgoing}
 use Rattle.pool_workers.proofs.WordSteps as W

@@ -1,20 +1,20 @@
 -- The rule of the words is kept by each step.
-use Rattle.std.proofs.Common.{◌≡◌, ◌≢◌, ℕ, zero, suc, ◌+◌, ◌-◌, ◌<◌, ◌≤◌, ◌%◌, ◌⊎◌, inl, inr, ⊎_elim, Bool, true, false, cond, eqb, List, [], ◌∷◌, ◌++◌, length, get_or, set, refl, sym, ap, ap₂, ◌∙◌, subst, arith}
+use Rattle.std.proofs.Common.{◌≡◌, ◌≢◌, ℕ, ◌+◌, ◌<◌, ◌≤◌, ⊎_elim, Bool, true, false, cond, eqb, List, [], ◌∷◌, ◌++◌, length, set, refl, sym, ap, ◌∙◌, subst, arith}
 use Rattle.std.specs.Prelude.{min}
-use Rattle.std.proofs.lemmas.Bool.{eqb-true, eq-eqb, ne_eqb}
+use Rattle.std.proofs.lemmas.Bool.{eq-eqb, ne_eqb}
 use Rattle.std.proofs.lemmas.List.{length-set, get_or-set_same, get_or-set_other}
 use mathlib.Core.Logic.{dite}
 use native.Mathlib.Decide.{ℕ_discrete}
-use mathlib.Core.Option.{some, some-injective, some-ne-none}
+use mathlib.Core.Option.{some}
 use lib.ListN.{get_elem?}
-use Rattle.atomic_table.proofs.Lists.{at_set, at_snoc, set_again}
+use Rattle.atomic_table.proofs.Lists.{at_set, at_snoc}
 use Rattle.turn_core.specs.declared.edge.Edge.{Edge}
 use Rattle.pool_workers.specs.declared.view.View.{View}
-use Rattle.pool_workers.specs.Sums.{once, times, missing, source_at, target_at, IsTarget, IsForward}
-use Rattle.pool_workers.specs.Words.{taken_word, all_parts, view, total, takers, givers, left, word_at, Fair, Words, with_item, with_edge, less_one_part, one_part, together, spent}
+use Rattle.pool_workers.specs.Sums.{once, times, missing, source_at, target_at, IsTarget}
+use Rattle.pool_workers.specs.Words.{taken_word, all_parts, total, takers, givers, left, word_at, Fair, Words, with_item, with_edge, less_one_part, one_part, together, spent}
 use Rattle.pool_workers.specs.Steps.{MayGive}
-use Rattle.pool_workers.proofs.Totals.{total-set, total-snoc, one_le, total-le, total_but, total_only}
-use Rattle.pool_workers.proofs.Counts.{once_same, once_other, times-append, times-snoc, missing-same, missing-one, missing-none, none_missing}
+use Rattle.pool_workers.proofs.Totals.{total-set, total-snoc, total-le, total_but, total_only}
+use Rattle.pool_workers.proofs.Counts.{once_same, once_other, times-append, times-snoc, missing-same, missing-one}
 
 module _ (items : ℕ) (edges : List Edge) where
   -- the same sums, the same rule

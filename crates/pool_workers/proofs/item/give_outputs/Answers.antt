@@ -1,11 +1,10 @@
-use Rattle.std.proofs.Common.{◌≡◌, ◌≢◌, ℕ, ◌+◌, ◌<◌, ◌≤◌, ◌%◌, rules, List, [], ◌∷◌, ◌++◌, length, get_or, take, drop, Option, Some, None, refl, sym, ap, ◌∙◌, subst, arith}
+use Rattle.std.proofs.Common.{◌≡◌, ℕ, List, length, get_or, refl, sym, ◌∙◌, subst}
 use Rattle.std.proofs.lemmas.List.{nil_from_length}
 use Rattle.atomic_table.specs.Table.{rest}
 use Rattle.task_pool.specs.Meanings.{AreMeanings}
 use Rattle.pool_workers.specs.Sums.{outgoing_of}
 use Rattle.pool_workers.specs.Words.{with_edge}
-use Rattle.pool_workers.specs.Steps.{MayGive}
-use Rattle.pool_workers.proofs.Items.{Gave, Turn, turn, gave_none, gave_all}
+use Rattle.pool_workers.proofs.Items.{Gave, turn, gave_none, gave_all}
 use Rattle.pool_workers.proofs.item.give_outputs.Goals as goal
 
 pub loop-value-init : goal.loop-value-init

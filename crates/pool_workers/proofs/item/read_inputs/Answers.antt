@@ -1,9 +1,9 @@
-use Rattle.std.proofs.Common.{◌≡◌, ◌≢◌, ℕ, ◌+◌, ◌<◌, ◌≤◌, ◌%◌, rules, List, [], ◌∷◌, ◌++◌, length, get_or, take, drop, Option, Some, None, refl, sym, ap, ◌∙◌, subst, arith}
+use Rattle.std.proofs.Common.{◌≡◌, ℕ, ◌+◌, ◌<◌, ◌≤◌, List, [], ◌∷◌, ◌++◌, length, get_or, take, Some, sym, ap, ◌∙◌, subst}
 use Rattle.atomic_table.specs.Table.{rest}
 use Rattle.task_pool.specs.Meanings.{AreMeanings}
-use Rattle.pool_workers.specs.Sums.{incoming_of, target_at}
-use Rattle.pool_workers.specs.Steps.{Holding, IsTop}
-use Rattle.pool_workers.proofs.Items.{in_incoming, Read, reads, read_is, reads_more, read_all}
+use Rattle.pool_workers.specs.Sums.{incoming_of}
+use Rattle.pool_workers.specs.Steps.{Holding}
+use Rattle.pool_workers.proofs.Items.{in_incoming, reads, read_is, reads_more, read_all}
 use Rattle.pool_workers.proofs.item.read_inputs.Goals as goal
 
 pub take_input-requires-clause-edge : goal.take_input-requires-clause-edge

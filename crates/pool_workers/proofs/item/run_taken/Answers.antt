@@ -1,4 +1,4 @@
-use Rattle.std.proofs.Common.{◌≡◌, ◌≢◌, ℕ, ◌+◌, ◌<◌, ◌≤◌, ◌%◌, rules, List, [], ◌∷◌, ◌++◌, length, get_or, take, drop, Option, Some, None, refl, sym, ap, ◌∙◌, subst, arith}
+use Rattle.std.proofs.Common.{List, sym, subst}
 use Rattle.task_pool.specs.Meanings.{AreMeanings}
 use Rattle.turn_core.specs.declared.edge.Edge.{Edge}
 use Rattle.pool_workers.specs.Sums.{incoming_of, outgoing_of}

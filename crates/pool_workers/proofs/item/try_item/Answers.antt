@@ -1,5 +1,5 @@
-use Rattle.std.proofs.Common.{◌≡◌, ◌≢◌, ℕ, ◌+◌, ◌<◌, ◌≤◌, ◌%◌, rules, List, [], ◌∷◌, ◌++◌, length, get_or, take, drop, Option, Some, None, refl, sym, ap, ◌∙◌, subst, arith}
-use Rattle.pool_workers.proofs.Items.{took_some, begins, fresh_edges, ran_took, ran_idle, ran_done, tried_done}
+use Rattle.std.proofs.Common.{ap}
+use Rattle.pool_workers.proofs.Items.{took_some, begins, fresh_edges, ran_took, ran_idle, ran_done}
 use Rattle.pool_workers.proofs.item.try_item.Goals as goal
 
 pub run_taken-requires-clause-took : goal.run_taken-requires-clause-took

@@ -1,6 +1,6 @@
-use Rattle.std.proofs.Common.{◌≡◌, ◌≢◌, ℕ, ◌+◌, ◌<◌, ◌≤◌, ◌%◌, rules, true, List, [], ◌∷◌, ◌++◌, length, get_or, take, drop, Option, Some, None, Vec, Global, refl, sym, ap, ◌∙◌, subst, arith}
+use Rattle.std.proofs.Common.{◌≡◌, [], ◌∷◌, ◌++◌, ap, ◌∙◌, arith}
 use Rattle.std.specs.Option.{option_to_list}
-use Rattle.pool_workers.specs.Sums.{times, times_in}
+use Rattle.pool_workers.specs.Sums.{times_in}
 use Rattle.pool_workers.specs.Shifts.{lists}
 use Rattle.pool_workers.proofs.Pools.{lists-snoc}
 use Rattle.pool_workers.proofs.shift.run_rest.Goals as goal

@@ -1,4 +1,4 @@
-use Rattle.std.proofs.Common.{◌≡◌, ◌≢◌, ℕ, ◌+◌, ◌<◌, ◌≤◌, ◌%◌, rules, true, List, [], ◌∷◌, ◌++◌, length, get_or, take, drop, Option, Some, None, Vec, Global, refl, sym, ap, ◌∙◌, subst, arith}
+use Rattle.std.proofs.Common.{subst}
 use Rattle.pool_workers.specs.Steps.{Tried}
 use Rattle.pool_workers.proofs.Pools.{did_ran, did_more}
 use Rattle.pool_workers.proofs.shift.try_number.Goals as goal

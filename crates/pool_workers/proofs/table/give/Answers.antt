@@ -1,7 +1,5 @@
-use Rattle.std.proofs.Common.{◌≡◌, ◌≢◌, ℕ, ◌+◌, ◌<◌, ◌≤◌, ◌%◌, rules, List, [], ◌∷◌, ◌++◌, length, get_or, take, drop, Option, Some, None, refl, sym, ap, ◌∙◌, subst, arith}
-use Rattle.std.specs.Prelude.{min}
-use Rattle.atomic_table.specs.Table.{Me, rest}
-use Rattle.pool_workers.specs.declared.view.View.{View}
+use Rattle.std.proofs.Common.{Some, ap, ◌∙◌, arith}
+use Rattle.atomic_table.specs.Table.{rest}
 use Rattle.pool_workers.specs.Words.{with_edge}
 use Rattle.pool_workers.proofs.SlotSteps.{allow_give}
 use Rattle.pool_workers.proofs.table.give.Goals as goal
