@@ -1,4 +1,3 @@
 pub mod NeedsLemmas
-pub mod PlanLemmas
 pub mod MessageLemmas
 pub mod SlotLemmas

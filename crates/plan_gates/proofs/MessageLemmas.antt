@@ -1,20 +1,20 @@
 -- The messages of gates: which rounds there are, who hears, and how long payloads are.
 use Rattle.std.proofs.Common.{ℕ, zero, suc, ◌≡◌, ◌<◌, ◌≤◌, ◌+◌, ◌*◌, Bool, true, false, cond, ◌||◌, List, [], ◌∷◌, length, take, filter, Option, Some, None, inl, inr, refl, sym, ◌∙◌, ap, ap₂, subst, arith}
-use Rattle.std.specs.Prelude.{slice_get, is_some, option_map}
+use Rattle.std.specs.Prelude.{slice_get, is_some, option_map, nat_lt}
 use Rattle.std.specs.List.{list_any}
 use Rattle.std.specs.Option.{unwrap_or}
 use Rattle.std.proofs.lemmas.List.{length-append}
 use Rattle.std.proofs.lemmas.List.Folds.{list_any-append}
 use Rattle.std.proofs.lemmas.List.Elements.{filter-append}
-use Rattle.std.proofs.lemmas.Bool.{cases_lt}
+use Rattle.std.proofs.lemmas.Bool.{cases_lt, ltb-true}
 use Rattle.mot_base.specs.Limits.{most_width, most_payload_bytes}
 use Rattle.share_types.specs.Sums.{each}
 use Rattle.message_demux.specs.Slots.{IsShapeOf, vector_bytes}
-use Rattle.mot_base.proofs.Lists.{same_some, take_next}
+use Rattle.mot_base.proofs.Lists.{same_some, take_next, inside_of, before_at, last_at}
 use Rattle.plan_gates.specs.declared.message.Message.{Message}
 use Rattle.plan_gates.specs.Gate.{Kind, Gate, InA, ConstA, AddA, SubA, AddConstA, MulConstA, MulA, OutA, InB, ConstB, XorB, XorConstB, SliceB, JoinB, AndB, OutB}
-use Rattle.plan_gates.specs.Plan.{Gates}
-use Rattle.plan_gates.specs.Messages.{words, vectors, messages_of, messages_at, message, are_two, hears, rounds, heard_rounds}
+use Rattle.plan_gates.specs.Plan.{Gates, Sizes, sizes_of}
+use Rattle.plan_gates.specs.Messages.{words, vectors, messages_of, messages_at, message, are_two, hears, rounds, heard_rounds, GatesHaveOneRound}
 
 -- ---- all parties, one after another
 
@@ -47,59 +47,143 @@ any_here p (suc n) at h e = any_next p n ∙ elim (cases_lt at n) as (λ _. (lis
 -- ---- rounds
 
 -- a kind has as many rounds for all parties, and at most one
-same_rounds : (kind : Kind) (w f t : ℕ) → length (messages_of kind w f t) ≡ length (messages_of kind w 0 0)
-same_rounds (InA party k) w f t = refl
-same_rounds (MulA x y) w f t = refl
-same_rounds (OutA x to) w f t = refl
-same_rounds (InB party k at) w f t = refl
-same_rounds (AndB x y) w f t = refl
-same_rounds (OutB x to) w f t = refl
-same_rounds _ w f t = refl
+same_rounds : (kind : Kind) (sizes : Sizes) (f t : ℕ) → length (messages_of kind sizes f t) ≡ length (messages_of kind sizes 0 0)
+same_rounds (InA party k) sizes f t = refl
+same_rounds (MulA x y) sizes f t = refl
+same_rounds (OutA x to) sizes f t = refl
+same_rounds (InB party k at) sizes f t = refl
+same_rounds (AndB x y) sizes f t = refl
+same_rounds (OutB x to) sizes f t = refl
+same_rounds _ sizes f t = refl
 
-few_rounds : (kind : Kind) (w : ℕ) → length (messages_of kind w 0 0) ≤ 1
-few_rounds (InA party k) w = omega arith
-few_rounds (MulA x y) w = omega arith
-few_rounds (OutA x to) w = omega arith
-few_rounds (InB party k at) w = omega arith
-few_rounds (AndB x y) w = omega arith
-few_rounds (OutB x to) w = omega arith
-few_rounds _ w = omega arith
+one_round : (kind : Kind) (sizes : Sizes) → length (messages_of kind sizes 0 0) ≤ 1
+one_round (InA party k) sizes = omega arith
+one_round (MulA x y) sizes = omega arith
+one_round (OutA x to) sizes = omega arith
+one_round (InB party k at) sizes = omega arith
+one_round (AndB x y) sizes = omega arith
+one_round (OutB x to) sizes = omega arith
+one_round _ sizes = omega arith
 
-past : {X : Type 0} (xs : List X) (k : ℕ) → length xs ≤ k → slice_get xs k ≡ None
+pub gates_have_one_round : GatesHaveOneRound
+gates_have_one_round plan g = by (slice_get plan.gates g)
+  where
+    by : (o : Option Gate) → length (messages_at plan o 0 0) ≤ 1
+    by None = omega arith
+    by (Some gate) = one_round gate.kind (sizes_of plan gate)
+
+pub rounds_are_few : (plan : Gates) (g : ℕ) → rounds plan g ≤ 3
+rounds_are_few plan g = let one = gates_have_one_round plan g in omega arith
+
+-- behind the last round there is no message
+pub in_rounds : (plan : Gates) (g from to round : ℕ) (m : Message) →
+    unwrap_or (slice_get (messages_at plan (slice_get plan.gates g) from to) round) None ≡ Some m → round < rounds plan g
+in_rounds plan g from to round m e = by (slice_get plan.gates g) e
+  where
+    inside : (xs : List (Option Message)) (k : ℕ) → unwrap_or (slice_get xs k) None ≡ Some m → k < length xs
+    inside [] k e = cc
+    inside (x ∷ xs) zero e = omega arith
+    inside (x ∷ xs) (suc k) e = let rest = inside xs k e in omega arith
+
+    by : (o : Option Gate) → unwrap_or (slice_get (messages_at plan o from to) round) None ≡ Some m →
+        round < length (messages_at plan o 0 0)
+    by None e = cc
+    by (Some gate) e =
+        let same = same_rounds gate.kind (sizes_of plan gate) from to in
+        let within = inside (messages_of gate.kind (sizes_of plan gate) from to) round e in
+        omega arith
+
+-- ---- the rounds in which a party hears, one after another
+
+-- those below a number that pass a test
+abbrev pub passing : (ℕ → Bool) → ℕ → List ℕ
+passing test n = filter test (each n (λ k. k))
+
+passing_next : (test : ℕ → Bool) (n : ℕ) → passing test (suc n) ≡ passing test n ++ filter test (n ∷ [])
+passing_next test n = filter-append test (each n (λ k. k)) (n ∷ [])
+
+count_one : (test : ℕ → Bool) (n : ℕ) (b : Bool) → test n ≡ b → length (filter test (n ∷ [])) ≡ cond b 1 0
+count_one test n true e = rw e refl
+count_one test n false e = rw e refl
+
+pub passing_more : (test : ℕ → Bool) (n : ℕ) (b : Bool) → test n ≡ b →
+    length (passing test (n + 1)) ≡ length (passing test n) + cond b 1 0
+passing_more test n b e =
+    let next : n + 1 ≡ suc n = omega arith in
+    ap (λ k. length (passing test k)) next
+    ∙ (ap (λ (xs : List ℕ). length xs) (passing_next test n)
+    ∙ (length-append (passing test n) (filter test (n ∷ [])) ∙ ap (λ k. length (passing test n) + k) (count_one test n b e)))
+
+-- one that passes stands behind as many as pass below it
+pub passing_at : (test : ℕ → Bool) (n at : ℕ) → at < n → test at ≡ true →
+    slice_get (passing test n) (length (passing test at)) ≡ Some at
+passing_at test zero at h e = absurd (omega arith)
+passing_at test (suc n) at h e =
+    ap (λ (xs : List ℕ). slice_get xs (length (passing test at))) (passing_next test n)
+    ∙ elim (cases_lt at n) as (λ _. slice_get (passing test n ++ filter test (n ∷ [])) (length (passing test at)) ≡ Some at) [
+      | inl small ↦
+          (let there = passing_at test n at small e in
+          before_at (passing test n) (filter test (n ∷ [])) (length (passing test at)) (inside_of (passing test n) (length (passing test at)) at there)
+          ∙ there)
+      | inr large ↦
+          (let same : at ≡ n = omega arith in
+          let P : ℕ → Type 0 = λ k. slice_get (passing test n ++ filter test (n ∷ [])) (length (passing test k)) ≡ Some k in
+          let one : filter test (n ∷ []) ≡ n ∷ [] = here (test n) refl (ap test (sym same) ∙ e) in
+          subst P (sym same) (ap (λ xs. slice_get (passing test n ++ xs) (length (passing test n))) one ∙ last_at (passing test n) n))
+    ]
+  where
+    here : (b : Bool) → test n ≡ b → test n ≡ true → filter test (n ∷ []) ≡ n ∷ []
+    here true f t = rw f refl
+    here false f t = let contrary = sym f ∙ t in cc
+
+pub past : {X : Type 0} (xs : List X) (k : ℕ) → length xs ≤ k → slice_get xs k ≡ None
 past [] k h = refl
 past (x ∷ xs) zero h = absurd (omega arith)
 past (x ∷ xs) (suc k) h = past xs k (omega arith)
 
-pub no_later_round : (kind : Kind) (w f t r : ℕ) → 0 < r → unwrap_or (slice_get (messages_of kind w f t) r) None ≡ None
-no_later_round kind w f t r h =
-    let same = same_rounds kind w f t in
-    let few = few_rounds kind w in
-    ap (λ o. unwrap_or o None) (past (messages_of kind w f t) r (omega arith))
+-- ---- what there is of a message
 
-rounds_of : (o : Option Gate) → length (messages_at o 0 0) ≤ 1
-rounds_of None = omega arith
-rounds_of (Some gate) = few_rounds gate.kind gate.width
+pub sent_parts : (parties from to : ℕ) (o : Option Message) (m : Message) → cond (are_two parties from to) o None ≡ Some m →
+    (from < parties) × (o ≡ Some m)
+sent_parts parties from to o m e = first (nat_lt from parties) refl e
+  where
+    second : (b : Bool) → cond b o None ≡ Some m → o ≡ Some m
+    second true e = e
+    second false e = cc
 
-silent : (o : Option Gate) (f t : ℕ) → length (messages_at o 0 0) ≡ 0 → unwrap_or (slice_get (messages_at o f t) 0) None ≡ None
-silent None f t e = refl
-silent (Some gate) f t e =
-    let same = same_rounds gate.kind gate.width f t in
-    ap (λ o. unwrap_or o None) (past (messages_of gate.kind gate.width f t) 0 (omega arith))
+    first : (b : Bool) → nat_lt from parties ≡ b → cond (are_two parties from to) o None ≡ Some m → (from < parties) × (o ≡ Some m)
+    first true t e = (ltb-true _ _ t, second (are_two parties from to) e)
+    first false t e = let none : are_two parties from to ≡ false = rw t refl in let contrary = rw none at e in cc
 
-nobody : (b : Bool) (o : Option Message) → o ≡ None → is_some (cond b o None) ≡ false
-nobody true o e = ap (λ o. is_some o) e
-nobody false o e = refl
+pub record IsSent (plan : Gates) (from to g round : ℕ) (m : Message) : Type 0 where
+  pub round : round < rounds plan g
+  pub sender : from < plan.parties
+  pub gate : g < length plan.gates
+
+pub is_sent : (plan : Gates) (from to g round : ℕ) (m : Message) → message plan from to g round ≡ Some m → IsSent plan from to g round m
+is_sent plan from to g round m e =
+    let parts = sent_parts plan.parties from to (unwrap_or (slice_get (messages_at plan (slice_get plan.gates g) from to) round) None) m e in
+    record { round = in_rounds plan g from to round m parts.1; sender = parts.0; gate = within (slice_get plan.gates g) refl parts.1 }
+  where
+    within : (o : Option Gate) → slice_get plan.gates g ≡ o → unwrap_or (slice_get (messages_at plan o from to) round) None ≡ Some m → g < length plan.gates
+    within None there e = cc
+    within (Some gate) there e = inside_of plan.gates g gate there
+
+-- ---- where a gate has at most one round, a party hears in that one or in none
+
+silent : (plan : Gates) (from to g : ℕ) → rounds plan g ≡ 0 → (o : Option Message) → message plan from to g 0 ≡ o → is_some o ≡ false
+silent plan from to g none None e = refl
+silent plan from to g none (Some m) e = let is = is_sent plan from to g 0 m e in let within = is.round in absurd (omega arith)
 
 none_any : (p : ℕ → Bool) (n : ℕ) → ((k : ℕ) → p k ≡ false) → list_any p (each n (λ k. k)) ≡ false
 none_any p zero silence = refl
 none_any p (suc n) silence = any_next p n ∙ ap₂ (λ a b. a || b) (none_any p n silence) (silence n)
 
 unheard : (plan : Gates) (to g : ℕ) → rounds plan g ≡ 0 → hears plan to g 0 ≡ false
-unheard plan to g e =
+unheard plan to g none =
     none_any (λ from. is_some (message plan from to g 0)) plan.parties
-    (λ from. nobody (are_two plan.parties from to) _ (silent (slice_get plan.gates g) from to e))
+    (λ from. silent plan from to g none (message plan from to g 0) refl)
 
--- the rounds in which a party hears: the one round, if it hears there
 heard_in : (n : ℕ) (test : ℕ → Bool) → n ≤ 1 → (n ≡ 0 → test 0 ≡ false) → (b : Bool) → test 0 ≡ b →
     filter test (each n (λ k. k)) ≡ cond b (0 ∷ []) []
 heard_in zero test few silence true e = let contrary = sym e ∙ silence refl in cc
@@ -110,7 +194,7 @@ heard_in (suc (suc n)) test few silence b e = absurd (omega arith)
 
 pub heard_is : (plan : Gates) (to g : ℕ) (b : Bool) → hears plan to g 0 ≡ b → heard_rounds plan to g ≡ cond b (0 ∷ []) []
 heard_is plan to g b e =
-    heard_in (rounds plan g) (hears plan to g) (rounds_of (slice_get plan.gates g)) (unheard plan to g) b e
+    heard_in (rounds plan g) (hears plan to g) (gates_have_one_round plan g) (unheard plan to g) b e
 
 -- ---- how long payloads are
 
@@ -119,16 +203,16 @@ pub record Fits (m : Message) : Type 0 where
   pub most : m.len ≤ most_payload_bytes
   pub shape : IsShapeOf m.shape m.len
 
-few_words : (count : ℕ) → 1 ≤ count → count ≤ 2 → Fits (words count)
+few_words : (count : ℕ) → 1 ≤ count → count ≤ 8192 → Fits (words count)
 few_words count some few = record { some = omega arith; most = omega arith; shape = tt }
 
-few_vectors : (count width : ℕ) → 1 ≤ count → count ≤ 2 → 1 ≤ width → width ≤ most_width → Fits (vectors count width)
+few_vectors : (count width : ℕ) → 1 ≤ count → count ≤ 8192 → 1 ≤ width → width ≤ most_width → Fits (vectors count width)
 few_vectors count width some few wide narrow =
     let least : 1 ≤ vector_bytes width = omega arith in
     let most : vector_bytes width ≤ 8 = omega arith in
     record {
       some = times_least count (vector_bytes width) some least;
-      most = let top = times_most count (vector_bytes width) few most in omega arith;
+      most = let top = times_most count (vector_bytes width) most in omega arith;
       shape = (wide, narrow, refl);
     }
   where
@@ -136,11 +220,12 @@ few_vectors count width some few wide narrow =
     times_least (suc a) b h k = omega (arith, h, k)
     times_least zero b h k = absurd (omega (arith, h))
 
-    times_most : (a b : ℕ) → a ≤ 2 → b ≤ 8 → a * b ≤ 16
-    times_most zero b h k = omega arith
-    times_most (suc zero) b h k = omega (arith, k)
-    times_most (suc (suc zero)) b h k = omega (arith, k)
-    times_most (suc (suc (suc a))) b h k = absurd (omega (arith, h))
+    times_most : (a b : ℕ) → b ≤ 8 → a * b ≤ a * 8
+    times_most zero b h = omega arith
+    times_most (suc a) b h = let rest = times_most a b h in let one = suc_times a b in let other = suc_times a 8 in omega arith
+
+    suc_times : (a b : ℕ) → suc a * b ≡ a * b + b
+    suc_times a b = suc-mul a b
 
 one_entry : (b : Bool) (given m : Message) (round : ℕ) → Fits given →
     unwrap_or (slice_get (cond b (Some given) None ∷ []) round) None ≡ Some m → Fits m
@@ -155,31 +240,22 @@ nothing_there : (m : Message) (round : ℕ) → unwrap_or (slice_get no_messages
 nothing_there m zero e = cc
 nothing_there m (suc round) e = cc
 
-kind_fits : (kind : Kind) (w f t r : ℕ) (m : Message) → 1 ≤ w → w ≤ most_width →
-    unwrap_or (slice_get (messages_of kind w f t) r) None ≡ Some m → Fits m
-kind_fits (InA party k) w f t r m some most e = one_entry _ (words 1) m r (few_words 1 (omega arith) (omega arith)) e
-kind_fits (MulA x y) w f t r m some most e = one_entry true (words 2) m r (few_words 2 (omega arith) (omega arith)) e
-kind_fits (OutA x to) w f t r m some most e = one_entry _ (words 1) m r (few_words 1 (omega arith) (omega arith)) e
-kind_fits (InB party k at) w f t r m some most e =
-    one_entry _ (vectors 1 w) m r (few_vectors 1 w (omega arith) (omega arith) some most) e
-kind_fits (AndB x y) w f t r m some most e =
-    one_entry true (vectors 2 w) m r (few_vectors 2 w (omega arith) (omega arith) some most) e
-kind_fits (OutB x to) w f t r m some most e =
-    one_entry _ (vectors 1 w) m r (few_vectors 1 w (omega arith) (omega arith) some most) e
-kind_fits (ConstA c) w f t r m some most e = nothing_there m r e
-kind_fits (AddA x y) w f t r m some most e = nothing_there m r e
-kind_fits (SubA x y) w f t r m some most e = nothing_there m r e
-kind_fits (AddConstA x c) w f t r m some most e = nothing_there m r e
-kind_fits (MulConstA x c) w f t r m some most e = nothing_there m r e
-kind_fits (ConstB c) w f t r m some most e = nothing_there m r e
-kind_fits (XorB x y) w f t r m some most e = nothing_there m r e
-kind_fits (XorConstB x c) w f t r m some most e = nothing_there m r e
-kind_fits (SliceB x at) w f t r m some most e = nothing_there m r e
-kind_fits (JoinB x y) w f t r m some most e = nothing_there m r e
+kind_fits : (kind : Kind) (sizes : Sizes) (f t r : ℕ) (m : Message) → 1 ≤ sizes.width → sizes.width ≤ most_width →
+    unwrap_or (slice_get (messages_of kind sizes f t) r) None ≡ Some m → Fits m
+kind_fits (InA party k) sizes f t r m some most e = one_entry _ (words 1) m r (few_words 1 (omega arith) (omega arith)) e
+kind_fits (MulA x y) sizes f t r m some most e = one_entry true (words 2) m r (few_words 2 (omega arith) (omega arith)) e
+kind_fits (OutA x to) sizes f t r m some most e = one_entry _ (words 1) m r (few_words 1 (omega arith) (omega arith)) e
+kind_fits (InB party k at) sizes f t r m some most e =
+    one_entry _ (vectors 1 sizes.width) m r (few_vectors 1 sizes.width (omega arith) (omega arith) some most) e
+kind_fits (AndB x y) sizes f t r m some most e =
+    one_entry true (vectors 2 sizes.width) m r (few_vectors 2 sizes.width (omega arith) (omega arith) some most) e
+kind_fits (OutB x to) sizes f t r m some most e =
+    one_entry _ (vectors 1 sizes.width) m r (few_vectors 1 sizes.width (omega arith) (omega arith) some most) e
+kind_fits _ sizes f t r m some most e = nothing_there m r e
 
-pub gate_fits : (gate : Gate) (f t r : ℕ) (m : Message) → 1 ≤ gate.width → gate.width ≤ most_width →
-    unwrap_or (slice_get (messages_at (Some gate) f t) r) None ≡ Some m → Fits m
-gate_fits gate f t r m some most e = kind_fits gate.kind gate.width f t r m some most e
+pub gate_fits : (plan : Gates) (gate : Gate) (f t r : ℕ) (m : Message) → 1 ≤ gate.width → gate.width ≤ most_width →
+    unwrap_or (slice_get (messages_at plan (Some gate) f t) r) None ≡ Some m → Fits m
+gate_fits plan gate f t r m some most e = kind_fits gate.kind (sizes_of plan gate) f t r m some most e
 
 -- ---- output gates, one after another
 

@@ -17,12 +17,12 @@ use Rattle.message_demux.specs.declared.slots.SlotSpec.{SlotSpec}
 use Rattle.message_demux.specs.Slots.{slot_cmp, slot_of, slot_at, listed, IsSlotSpec, IsSlotList}
 use Rattle.message_demux.proofs.Places.{slot_same, absent}
 use Rattle.message_demux.proofs.Keeping.{listed_at}
-use Rattle.mot_base.proofs.Lists.{same_some}
+use Rattle.mot_base.proofs.Lists.{same_some, before_at, all_append, all_implied}
 use Rattle.plan_gates.specs.declared.message.Message.{Message}
 use Rattle.plan_gates.specs.Gate.{Gate}
 use Rattle.plan_gates.specs.Plan.{Gates, IsPlan}
-use Rattle.plan_gates.specs.Messages.{message, messages_at, are_two, spec_of, slot_list, slots_from, AreSlotsTo}
-use Rattle.plan_gates.proofs.MessageLemmas.{Fits, gate_fits, no_later_round}
+use Rattle.plan_gates.specs.Messages.{message, messages_at, spec_of, slot_list, slots_in, slots_from, rounds, AreSlotsTo}
+use Rattle.plan_gates.proofs.MessageLemmas.{Fits, IsSent, gate_fits, is_sent, sent_parts, rounds_are_few}
 
 -- the messages of the senders below a number
 abbrev pub slots_before : Gates → ℕ → ℕ → List SlotSpec
@@ -34,56 +34,73 @@ slots_before plan to (suc n) = slots_before plan to n ++ slots_from plan n to (l
 -- a message of the plan, of a sender and at a gate below these numbers
 record IsOf (plan : Gates) (to senders gates : ℕ) (s : SlotSpec) : Type 0 where
   sent : message plan s.from.0 to s.gate s.round ≡ Some (record { len = s.len; shape = s.shape })
-  first : s.round ≡ 0
   sender : s.from.0 < senders
   gate : s.gate < gates
 
-all_append : {X : Type 0} (P : X → Type 0) (xs ys : List X) → AllByRecursion P xs → AllByRecursion P ys → AllByRecursion P (xs ++ ys)
-all_append P [] ys f g = g
-all_append P (x ∷ xs) ys f g = (f.0, all_append P xs ys f.1 g)
+-- of a sender, at a gate and in a round below a number
+record IsIn (from g rounds : ℕ) (s : SlotSpec) : Type 0 where
+  sender : s.from.0 ≡ from
+  gate : s.gate ≡ g
+  round : s.round < rounds
 
-all_more : {X : Type 0} (P Q : X → Type 0) → ((x : X) → P x → Q x) → (xs : List X) → AllByRecursion P xs → AllByRecursion Q xs
-all_more P Q more [] f = tt
-all_more P Q more (x ∷ xs) f = (more x f.0, all_more P Q more xs f.1)
+of_list : (plan : Gates) (to from g round : ℕ) (o : Option Message) → message plan from to g round ≡ o →
+    AllByRecursion (IsOf plan to (suc from) (suc g)) (slot_list from g round o)
+of_list plan to from g round None e = tt
+of_list plan to from g round (Some m) e = (record { sent = e; sender = omega arith; gate = omega arith }, tt)
 
-of_list : (plan : Gates) (to from g : ℕ) (o : Option Message) → message plan from to g 0 ≡ o →
-    AllByRecursion (IsOf plan to (suc from) (suc g)) (slot_list from g o)
-of_list plan to from g None e = tt
-of_list plan to from g (Some m) e = (record { sent = e; first = refl; sender = omega arith; gate = omega arith }, tt)
+of_rounds : (plan : Gates) (to from g n : ℕ) → AllByRecursion (IsOf plan to (suc from) (suc g)) (slots_in plan from to g n)
+of_rounds plan to from g zero = tt
+of_rounds plan to from g (suc round) =
+    all_append (IsOf plan to (suc from) (suc g)) (slots_in plan from to g round) (slot_list from g round (message plan from to g round))
+    (of_rounds plan to from g round) (of_list plan to from g round (message plan from to g round) refl)
 
 wider : (plan : Gates) (to senders gates more later : ℕ) → senders ≤ more → gates ≤ later → (s : SlotSpec) →
     IsOf plan to senders gates s → IsOf plan to more later s
 wider plan to senders gates more later h k s is =
     let below = is.sender in
     let before = is.gate in
-    record { sent = is.sent; first = is.first; sender = omega arith; gate = omega arith }
+    record { sent = is.sent; sender = omega arith; gate = omega arith }
 
 of_sender : (plan : Gates) (to from n : ℕ) → AllByRecursion (IsOf plan to (suc from) n) (slots_from plan from to n)
 of_sender plan to from zero = tt
 of_sender plan to from (suc g) =
-    all_append (IsOf plan to (suc from) (suc g)) (slots_from plan from to g) (slot_list from g (message plan from to g 0))
-    (all_more (IsOf plan to (suc from) g) (IsOf plan to (suc from) (suc g))
+    all_append (IsOf plan to (suc from) (suc g)) (slots_from plan from to g) (slots_in plan from to g (rounds plan g))
+    (all_implied (IsOf plan to (suc from) g) (IsOf plan to (suc from) (suc g))
     (wider plan to (suc from) g (suc from) (suc g) (omega arith) (omega arith)) (slots_from plan from to g) (of_sender plan to from g))
-    (of_list plan to from g (message plan from to g 0) refl)
+    (of_rounds plan to from g (rounds plan g))
 
 of_senders : (plan : Gates) (to n : ℕ) → AllByRecursion (IsOf plan to n (length plan.gates)) (slots_before plan to n)
 of_senders plan to zero = tt
 of_senders plan to (suc n) =
     all_append (IsOf plan to (suc n) (length plan.gates)) (slots_before plan to n) (slots_from plan n to (length plan.gates))
-    (all_more (IsOf plan to n (length plan.gates)) (IsOf plan to (suc n) (length plan.gates))
+    (all_implied (IsOf plan to n (length plan.gates)) (IsOf plan to (suc n) (length plan.gates))
     (wider plan to n (length plan.gates) (suc n) (length plan.gates) (omega arith) (omega arith)) (slots_before plan to n) (of_senders plan to n))
     (of_sender plan to n (length plan.gates))
 
--- each has this sender
-from_sender : (plan : Gates) (to from n : ℕ) → AllByRecursion (λ s. s.from.0 ≡ from) (slots_from plan from to n)
-from_sender plan to from zero = tt
-from_sender plan to from (suc g) =
-    all_append (λ s. s.from.0 ≡ from) (slots_from plan from to g) (slot_list from g (message plan from to g 0))
-    (from_sender plan to from g) (here (message plan from to g 0))
-  where
-    here : (o : Option Message) → AllByRecursion (λ (s : SlotSpec). s.from.0 ≡ from) (slot_list from g o)
-    here None = tt
-    here (Some m) = (refl, tt)
+in_list : (from g round : ℕ) (o : Option Message) → AllByRecursion (IsIn from g (suc round)) (slot_list from g round o)
+in_list from g round None = tt
+in_list from g round (Some m) = (record { sender = refl; gate = refl; round = omega arith }, tt)
+
+in_rounds : (plan : Gates) (to from g n : ℕ) → AllByRecursion (IsIn from g n) (slots_in plan from to g n)
+in_rounds plan to from g zero = tt
+in_rounds plan to from g (suc round) =
+    all_append (IsIn from g (suc round)) (slots_in plan from to g round) (slot_list from g round (message plan from to g round))
+    (all_implied (IsIn from g round) (IsIn from g (suc round))
+    (λ s is. record { sender = is.sender; gate = is.gate; round = let h = is.round in omega arith })
+    (slots_in plan from to g round) (in_rounds plan to from g round))
+    (in_list from g round (message plan from to g round))
+
+-- each is of this sender and of a gate below a number
+abbrev IsBelow : ℕ → ℕ → SlotSpec → Type 0
+IsBelow from n s = (s.from.0 ≡ from) × (s.gate < n)
+
+below : (plan : Gates) (to from n : ℕ) → AllByRecursion (IsBelow from n) (slots_from plan from to n)
+below plan to from zero = tt
+below plan to from (suc g) =
+    all_append (IsBelow from (suc g)) (slots_from plan from to g) (slots_in plan from to g (rounds plan g))
+    (all_implied (IsBelow from g) (IsBelow from (suc g)) (λ s is. (is.0, let h = is.1 in omega arith)) (slots_from plan from to g) (below plan to from g))
+    (all_implied (IsIn from g (rounds plan g)) (IsBelow from (suc g)) (λ s is. (is.sender, let h = is.gate in omega arith))
+    (slots_in plan from to g (rounds plan g)) (in_rounds plan to from g (rounds plan g)))
 
 -- ---- their order
 
@@ -99,6 +116,11 @@ earlier_sender s t h = ap (λ o. ordering_then o (ordering_then (nat_cmp s.gate 
 earlier_gate : (s t : Slot) → s.from.0 ≡ t.from.0 → s.gate < t.gate → slot_cmp s t ≡ Less
 earlier_gate s t e h =
     ap₂ (λ o p. ordering_then o (ordering_then p (nat_cmp s.round t.round))) (equal s.from.0 t.from.0 e) (less s.gate t.gate h)
+
+earlier_round : (s t : Slot) → s.from.0 ≡ t.from.0 → s.gate ≡ t.gate → s.round < t.round → slot_cmp s t ≡ Less
+earlier_round s t e f h =
+    ap₂ (λ o p. ordering_then o (ordering_then p (nat_cmp s.round t.round))) (equal s.from.0 t.from.0 e) (equal s.gate t.gate f)
+    ∙ less s.round t.round h
 
 sorted_append : (xs ys : List SlotSpec) → IsStrictlySortedBy slot_cmp (map slot_of xs) → IsStrictlySortedBy slot_cmp (map slot_of ys) →
     AllByRecursion (λ x. AllByRecursion (λ y. slot_cmp (slot_of x) (slot_of y) ≡ Less) ys) xs →
@@ -121,63 +143,76 @@ sorted_append (x ∷ xs) ys f g below =
 both : {X Y : Type 0} (P : X → Type 0) (Q : Y → Type 0) (R : X → Y → Type 0) → ((x : X) (y : Y) → P x → Q y → R x y) →
     (xs : List X) (ys : List Y) → AllByRecursion P xs → AllByRecursion Q ys → AllByRecursion (λ x. AllByRecursion (R x) ys) xs
 both P Q R make [] ys f g = tt
-both P Q R make (x ∷ xs) ys f g = (all_more Q (R x) (λ y q. make x y f.0 q) ys g, both P Q R make xs ys f.1 g)
+both P Q R make (x ∷ xs) ys f g = (all_implied Q (R x) (λ y q. make x y f.0 q) ys g, both P Q R make xs ys f.1 g)
 
 none_sorted : IsStrictlySortedBy slot_cmp []
 unfolding IsStrictlySortedBy
 none_sorted = tt
 
-list_sorted : (from g : ℕ) (o : Option Message) → IsStrictlySortedBy slot_cmp (map slot_of (slot_list from g o))
+list_sorted : (from g round : ℕ) (o : Option Message) → IsStrictlySortedBy slot_cmp (map slot_of (slot_list from g round o))
 unfolding IsStrictlySortedBy
-list_sorted from g None = tt
-list_sorted from g (Some m) = (tt, tt)
+list_sorted from g round None = tt
+list_sorted from g round (Some m) = (tt, tt)
+
+sorted_gate : (plan : Gates) (to from g n : ℕ) → IsStrictlySortedBy slot_cmp (map slot_of (slots_in plan from to g n))
+sorted_gate plan to from g zero = none_sorted
+sorted_gate plan to from g (suc round) =
+    sorted_append (slots_in plan from to g round) (slot_list from g round (message plan from to g round))
+    (sorted_gate plan to from g round) (list_sorted from g round (message plan from to g round))
+    (both (IsIn from g round) (λ s. (s.from.0 ≡ from) × (s.gate ≡ g) × (s.round ≡ round)) (λ s t. slot_cmp (slot_of s) (slot_of t) ≡ Less)
+    (λ s t p q. earlier_round (slot_of s) (slot_of t) (p.sender ∙ sym q.0) (p.gate ∙ sym q.1) (let a = p.round in let b = q.2 in omega arith))
+    (slots_in plan from to g round) (slot_list from g round (message plan from to g round))
+    (in_rounds plan to from g round) (there (message plan from to g round)))
+  where
+    there : (o : Option Message) →
+        AllByRecursion (λ (s : SlotSpec). (s.from.0 ≡ from) × (s.gate ≡ g) × (s.round ≡ round)) (slot_list from g round o)
+    there None = tt
+    there (Some m) = ((refl, refl, refl), tt)
 
 sorted_sender : (plan : Gates) (to from n : ℕ) → IsStrictlySortedBy slot_cmp (map slot_of (slots_from plan from to n))
 sorted_sender plan to from zero = none_sorted
 sorted_sender plan to from (suc g) =
-    sorted_append (slots_from plan from to g) (slot_list from g (message plan from to g 0)) (sorted_sender plan to from g)
-    (list_sorted from g (message plan from to g 0))
-    (both (λ s. (s.from.0 ≡ from) × (s.gate < g)) (λ s. (s.from.0 ≡ from) × (s.gate ≡ g))
-    (λ s t. slot_cmp (slot_of s) (slot_of t) ≡ Less)
-    (λ s t p q. earlier_gate (slot_of s) (slot_of t) (p.0 ∙ sym q.0) (let a = p.1 in let b = q.1 in omega arith))
-    (slots_from plan from to g) (slot_list from g (message plan from to g 0))
-    (paired (slots_from plan from to g) (from_sender plan to from g) (of_sender plan to from g))
-    (there (message plan from to g 0)))
-  where
-    there : (o : Option Message) → AllByRecursion (λ (s : SlotSpec). (s.from.0 ≡ from) × (s.gate ≡ g)) (slot_list from g o)
-    there None = tt
-    there (Some m) = ((refl, refl), tt)
-
-    paired : (ss : List SlotSpec) → AllByRecursion (λ s. s.from.0 ≡ from) ss → AllByRecursion (IsOf plan to (suc from) g) ss →
-        AllByRecursion (λ (s : SlotSpec). (s.from.0 ≡ from) × (s.gate < g)) ss
-    paired [] f h = tt
-    paired (s ∷ ss) f h = ((f.0, h.0.gate), paired ss f.1 h.1)
+    sorted_append (slots_from plan from to g) (slots_in plan from to g (rounds plan g)) (sorted_sender plan to from g)
+    (sorted_gate plan to from g (rounds plan g))
+    (both (IsBelow from g) (IsIn from g (rounds plan g)) (λ s t. slot_cmp (slot_of s) (slot_of t) ≡ Less)
+    (λ s t p q. earlier_gate (slot_of s) (slot_of t) (p.0 ∙ sym q.sender) (let a = p.1 in let b = q.gate in omega arith))
+    (slots_from plan from to g) (slots_in plan from to g (rounds plan g))
+    (below plan to from g) (in_rounds plan to from g (rounds plan g)))
 
 sorted_senders : (plan : Gates) (to n : ℕ) → IsStrictlySortedBy slot_cmp (map slot_of (slots_before plan to n))
 sorted_senders plan to zero = none_sorted
 sorted_senders plan to (suc n) =
     sorted_append (slots_before plan to n) (slots_from plan n to (length plan.gates)) (sorted_senders plan to n)
     (sorted_sender plan to n (length plan.gates))
-    (both (IsOf plan to n (length plan.gates)) (λ s. s.from.0 ≡ n) (λ s t. slot_cmp (slot_of s) (slot_of t) ≡ Less)
-    (λ s t p q. earlier_sender (slot_of s) (slot_of t) (let a = p.sender in omega arith))
+    (both (IsOf plan to n (length plan.gates)) (IsBelow n (length plan.gates)) (λ s t. slot_cmp (slot_of s) (slot_of t) ≡ Less)
+    (λ s t p q. earlier_sender (slot_of s) (slot_of t) (let a = p.sender in let b = q.0 in omega arith))
     (slots_before plan to n) (slots_from plan n to (length plan.gates))
-    (of_senders plan to n) (from_sender plan to n (length plan.gates)))
+    (of_senders plan to n) (below plan to n (length plan.gates)))
 
 -- ---- how many there are
 
-few_list : (from g : ℕ) (o : Option Message) → length (slot_list from g o) ≤ 1
-few_list from g None = omega arith
-few_list from g (Some m) = omega arith
+few_list : (from g round : ℕ) (o : Option Message) → length (slot_list from g round o) ≤ 1
+few_list from g round None = omega arith
+few_list from g round (Some m) = omega arith
 
-few_from : (plan : Gates) (to from n : ℕ) → length (slots_from plan from to n) ≤ n
+few_in : (plan : Gates) (to from g n : ℕ) → length (slots_in plan from to g n) ≤ n
+few_in plan to from g zero = omega arith
+few_in plan to from g (suc round) =
+    let before = few_in plan to from g round in
+    let one = few_list from g round (message plan from to g round) in
+    let all = length-append (slots_in plan from to g round) (slot_list from g round (message plan from to g round)) in
+    omega arith
+
+few_from : (plan : Gates) (to from n : ℕ) → length (slots_from plan from to n) ≤ 3 * n
 few_from plan to from zero = omega arith
 few_from plan to from (suc g) =
     let before = few_from plan to from g in
-    let one = few_list from g (message plan from to g 0) in
-    let all = length-append (slots_from plan from to g) (slot_list from g (message plan from to g 0)) in
+    let here = few_in plan to from g (rounds plan g) in
+    let few = rounds_are_few plan g in
+    let all = length-append (slots_from plan from to g) (slots_in plan from to g (rounds plan g)) in
     omega arith
 
-few_before : (plan : Gates) (to n : ℕ) → length plan.gates ≤ most_gates → length (slots_before plan to n) ≤ n * most_gates
+few_before : (plan : Gates) (to n : ℕ) → length plan.gates ≤ most_gates → length (slots_before plan to n) ≤ n * (3 * most_gates)
 few_before plan to zero few = omega arith
 few_before plan to (suc n) few =
     let before = few_before plan to n few in
@@ -192,86 +227,62 @@ record Has (specs : List SlotSpec) (s : SlotSpec) : Type 0 where
   there : slice_get specs at ≡ Some s
 
 has_left : (xs ys : List SlotSpec) (s : SlotSpec) → Has xs s → Has (xs ++ ys) s
-has_left xs ys s h = record { at = h.at; there = kept_left xs h.at (slice_get_within xs h.at s h.there) ∙ h.there }
-  where
-    kept_left : (xs : List SlotSpec) (at : ℕ) → at < length xs → slice_get (xs ++ ys) at ≡ slice_get xs at
-    kept_left [] at h = absurd (omega arith)
-    kept_left (x ∷ xs) zero h = refl
-    kept_left (x ∷ xs) (suc at) h = kept_left xs at (omega arith)
+has_left xs ys s h = record { at = h.at; there = before_at xs ys h.at (slice_get_within xs h.at s h.there) ∙ h.there }
 
 has_right : (xs ys : List SlotSpec) (s : SlotSpec) → Has ys s → Has (xs ++ ys) s
 has_right [] ys s h = h
 has_right (x ∷ xs) ys s h = let rest = has_right xs ys s h in record { at = suc rest.at; there = rest.there }
 
-has_gate : (plan : Gates) (to from n g : ℕ) (m : Message) → g < n → message plan from to g 0 ≡ Some m →
-    Has (slots_from plan from to n) (spec_of from g 0 m)
-has_gate plan to from zero g m h e = absurd (omega arith)
-has_gate plan to from (suc n) g m h e = elim (cases_lt g n) [
-  | inl small ↦ has_left (slots_from plan from to n) _ _ (has_gate plan to from n g m small e)
-  | inr large ↦
-      (let same : g ≡ n = omega arith in
-      let P : ℕ → Type 0 = λ k. Has (slot_list from k (message plan from to k 0)) (spec_of from k 0 m) in
-      has_right (slots_from plan from to n) (slot_list from n (message plan from to n 0)) _
-      (subst (λ k. Has (slot_list from n (message plan from to n 0)) (spec_of from k 0 m)) (sym same) (here (message plan from to n 0) (ap (λ k. message plan from to k 0) (sym same) ∙ e))))
-]
-  where
-    here : (o : Option Message) → o ≡ Some m → Has (slot_list from n o) (spec_of from n 0 m)
-    here None e = cc
-    here (Some other) e = record { at = 0; there = ap (λ x. Some (spec_of from n 0 x)) (same_some other m e) }
+has_list : (from g round : ℕ) (o : Option Message) (m : Message) → o ≡ Some m → Has (slot_list from g round o) (spec_of from g round m)
+has_list from g round None m e = cc
+has_list from g round (Some other) m e = record { at = 0; there = ap (λ x. Some (spec_of from g round x)) (same_some other m e) }
 
-has_sender : (plan : Gates) (to n from g : ℕ) (m : Message) → from < n → g < length plan.gates → message plan from to g 0 ≡ Some m →
-    Has (slots_before plan to n) (spec_of from g 0 m)
-has_sender plan to zero from g m h k e = absurd (omega arith)
-has_sender plan to (suc n) from g m h k e = elim (cases_lt from n) [
-  | inl small ↦ has_left (slots_before plan to n) _ _ (has_sender plan to n from g m small k e)
+has_round : (plan : Gates) (to from g n round : ℕ) (m : Message) → round < n → message plan from to g round ≡ Some m →
+    Has (slots_in plan from to g n) (spec_of from g round m)
+has_round plan to from g zero round m h e = absurd (omega arith)
+has_round plan to from g (suc n) round m h e = elim (cases_lt round n) [
+  | inl small ↦ has_left (slots_in plan from to g n) _ _ (has_round plan to from g n round m small e)
+  | inr large ↦
+      (let same : n ≡ round = omega arith in
+      has_right (slots_in plan from to g n) (slot_list from g n (message plan from to g n)) _
+      (subst (λ k. Has (slot_list from k n (message plan from to k n)) (spec_of from k round m)) refl
+      (subst (λ k. Has (slot_list from g k (message plan from to g k)) (spec_of from g round m)) (sym same)
+      (has_list from g round (message plan from to g round) m e))))
+]
+
+has_gate : (plan : Gates) (to from n g round : ℕ) (m : Message) → g < n → round < rounds plan g → message plan from to g round ≡ Some m →
+    Has (slots_from plan from to n) (spec_of from g round m)
+has_gate plan to from zero g round m h r e = absurd (omega arith)
+has_gate plan to from (suc n) g round m h r e = elim (cases_lt g n) [
+  | inl small ↦ has_left (slots_from plan from to n) _ _ (has_gate plan to from n g round m small r e)
+  | inr large ↦
+      (let same : n ≡ g = omega arith in
+      has_right (slots_from plan from to n) (slots_in plan from to n (rounds plan n)) _
+      (subst (λ k. Has (slots_in plan from to k (rounds plan k)) (spec_of from g round m)) (sym same)
+      (has_round plan to from g (rounds plan g) round m r e)))
+]
+
+has_sender : (plan : Gates) (to n from g round : ℕ) (m : Message) → from < n → IsSent plan from to g round m →
+    message plan from to g round ≡ Some m → Has (slots_before plan to n) (spec_of from g round m)
+has_sender plan to zero from g round m h is e = absurd (omega arith)
+has_sender plan to (suc n) from g round m h is e = elim (cases_lt from n) [
+  | inl small ↦ has_left (slots_before plan to n) _ _ (has_sender plan to n from g round m small is e)
   | inr large ↦
       (let same : from ≡ n = omega arith in
       has_right (slots_before plan to n) (slots_from plan n to (length plan.gates)) _
-      (subst (λ p. Has (slots_from plan p to (length plan.gates)) (spec_of from g 0 m)) same (has_gate plan to from (length plan.gates) g m k e)))
+      (subst (λ p. Has (slots_from plan p to (length plan.gates)) (spec_of from g round m)) same
+      (has_gate plan to from (length plan.gates) g round m is.gate is.round e)))
 ]
-
--- ---- what a message says of its slot
-
-pub record IsSent (plan : Gates) (from to g round : ℕ) (m : Message) : Type 0 where
-  pub first : round ≡ 0
-  pub sender : from < plan.parties
-  pub gate : g < length plan.gates
-
-sent_parts : (parties from to : ℕ) (o : Option Message) (m : Message) → cond (are_two parties from to) o None ≡ Some m →
-    (from < parties) × (o ≡ Some m)
-sent_parts parties from to o m e = first (nat_lt from parties) refl e
-  where
-    second : (b : Bool) → cond b o None ≡ Some m → o ≡ Some m
-    second true e = e
-    second false e = cc
-
-    first : (b : Bool) → nat_lt from parties ≡ b → cond (are_two parties from to) o None ≡ Some m → (from < parties) × (o ≡ Some m)
-    first true t e = (ltb-true _ _ t, second (are_two parties from to) e)
-    first false t e = let none : are_two parties from to ≡ false = rw t refl in let contrary = rw none at e in cc
-
-pub is_sent : (plan : Gates) (from to g round : ℕ) (m : Message) → message plan from to g round ≡ Some m → IsSent plan from to g round m
-is_sent plan from to g round m e =
-    let parts = sent_parts plan.parties from to (unwrap_or (slice_get (messages_at (slice_get plan.gates g) from to) round) None) m e in
-    record { first = only (slice_get plan.gates g) round parts.1; sender = parts.0; gate = within (slice_get plan.gates g) refl parts.1 }
-  where
-    only : (o : Option Gate) (r : ℕ) → unwrap_or (slice_get (messages_at o from to) r) None ≡ Some m → r ≡ 0
-    only None r e = cc
-    only (Some gate) zero e = refl
-    only (Some gate) (suc r) e = let contrary = sym (no_later_round gate.kind gate.width from to (suc r) (omega arith)) ∙ e in cc
-
-    within : (o : Option Gate) → slice_get plan.gates g ≡ o → unwrap_or (slice_get (messages_at o from to) round) None ≡ Some m → g < length plan.gates
-    within None there e = cc
-    within (Some gate) there e = slice_get_within plan.gates g gate there
 
 message_fits : (plan : Gates) → IsPlan plan → (from to g round : ℕ) (m : Message) → message plan from to g round ≡ Some m → Fits m
 message_fits plan valid from to g round m e =
-    fits (slice_get plan.gates g) refl (sent_parts plan.parties from to (unwrap_or (slice_get (messages_at (slice_get plan.gates g) from to) round) None) m e).1
+    fits (slice_get plan.gates g) refl (sent_parts plan.parties from to (unwrap_or (slice_get (messages_at plan (slice_get plan.gates g) from to) round) None) m e).1
   where
-    fits : (o : Option Gate) → slice_get plan.gates g ≡ o → unwrap_or (slice_get (messages_at o from to) round) None ≡ Some m → Fits m
+    fits : (o : Option Gate) → slice_get plan.gates g ≡ o → unwrap_or (slice_get (messages_at plan o from to) round) None ≡ Some m → Fits m
     fits None there e = cc
     fits (Some gate) there e =
         let is = valid.each g gate there in
-        gate_fits gate from to round m is.some_width is.in_width e
+        gate_fits plan gate from to round m is.some_width is.in_width e
 
 tied : (o : Ordering) → is_eq o ≡ true → o ≡ Equal
 tied Less t = cc
@@ -295,7 +306,7 @@ slots_all plan valid to = record { sorted = lists; each = exactly }
     lists = record {
       sorted = sorted_senders plan to plan.parties;
       few = let few = few_before plan to plan.parties valid.few in let most = valid.most_parties in omega arith;
-      each = all_more (IsOf plan to plan.parties (length plan.gates)) IsSlotSpec spec_fits all (of_senders plan to plan.parties);
+      each = all_implied (IsOf plan to plan.parties (length plan.gates)) IsSlotSpec spec_fits all (of_senders plan to plan.parties);
     }
 
     get_all : (P : SlotSpec → Type 0) (ss : List SlotSpec) (k : ℕ) (d : SlotSpec) → AllByRecursion P ss → k < length ss → P (get_or ss k d)
@@ -312,9 +323,7 @@ slots_all plan valid to = record { sorted = lists; each = exactly }
         answer : (o : Option Message) → message plan from to g round ≡ o → listed all slot ≡ option_map (spec_of from g round) o
         answer (Some m) e =
             let is = is_sent plan from to g round m e in
-            let P : ℕ → Type 0 = λ r. Has all (spec_of from g r m) in
-            let first : message plan from to g 0 ≡ Some m = ap (message plan from to g) (sym is.first) ∙ e in
-            let has : Has all (spec_of from g round m) = subst P (sym is.first) (has_sender plan to plan.parties from g m is.sender is.gate first) in
+            let has = has_sender plan to plan.parties from g round m is.sender is e in
             let within = slice_get_within all has.at (spec_of from g round m) has.there in
             let found = get_or_from_slice_get all has.at (spec_of from g round m) (spec_of from g round m) has.there in
             listed_at all slot has.at (spec_of from g round m) (sorted_senders plan to plan.parties) within (ap slot_of found)

@@ -1,5 +1,5 @@
 -- Gates of a plan: what each does, and how wide its value is.
-use Rattle.std.specs.Prelude.{ℕ, List, [], ◌∷◌, Option, Some, None, slice_get, option_map}
+use Rattle.std.specs.Prelude.{ℕ, List, [], ◌∷◌, map, Option, Some, None, slice_get, option_map}
 use Rattle.std.specs.Option.{unwrap_or}
 use Rattle.share_types.specs.declared.receiver.Receiver.{Receiver}
 use Rattle.share_types.specs.Wires.{party_told}
@@ -29,6 +29,9 @@ pub data Kind : Type 0 where
 pub record Gate : Type 0 where
   pub kind : Kind
   pub width : ℕ
+
+abbrev pub gate_of : Kind → ℕ → Gate
+gate_of kind width = record { kind = kind; width = width }
 
 -- the list of all kinds
 abbrev pub kind_of : GateKind → Kind
@@ -72,30 +75,48 @@ gives (AddConstA x c) = Word
 gives (MulConstA x c) = Word
 gives (MulA x y) = Word
 gives (OutA x to) = Told
+gives (InB party k at) = Vector
+gives (ConstB c) = Vector
+gives (XorB x y) = Vector
+gives (XorConstB x c) = Vector
+gives (SliceB x at) = Vector
+gives (JoinB x y) = Vector
+gives (AndB x y) = Vector
 gives (OutB x to) = Told
-gives _ = Vector
 
--- what each operand of a gate is
-abbrev pub takes : Kind → Given
-takes (OutA x to) = Word
-takes (OutB x to) = Vector
-takes kind = gives kind
+-- an operand of a gate: what it is, and the number of the gate that gives it
+pub record Use : Type 0 where
+  pub given : Given
+  pub gate : ℕ
+
+abbrev pub word : ℕ → Use
+word x = record { given = Word; gate = x }
+
+abbrev pub vector : ℕ → Use
+vector x = record { given = Vector; gate = x }
 
 -- the operands of a gate, in order
+abbrev pub uses : Kind → List Use
+uses (InA party k) = []
+uses (ConstA c) = []
+uses (AddA x y) = word x ∷ word y ∷ []
+uses (SubA x y) = word x ∷ word y ∷ []
+uses (AddConstA x c) = word x ∷ []
+uses (MulConstA x c) = word x ∷ []
+uses (MulA x y) = word x ∷ word y ∷ []
+uses (OutA x to) = word x ∷ []
+uses (InB party k at) = []
+uses (ConstB c) = []
+uses (XorB x y) = vector x ∷ vector y ∷ []
+uses (XorConstB x c) = vector x ∷ []
+uses (SliceB x at) = vector x ∷ []
+uses (JoinB x y) = vector x ∷ vector y ∷ []
+uses (AndB x y) = vector x ∷ vector y ∷ []
+uses (OutB x to) = vector x ∷ []
+
+-- the gates of the operands, in order
 abbrev pub operands : Kind → List ℕ
-operands (AddA x y) = x ∷ y ∷ []
-operands (SubA x y) = x ∷ y ∷ []
-operands (AddConstA x c) = x ∷ []
-operands (MulConstA x c) = x ∷ []
-operands (MulA x y) = x ∷ y ∷ []
-operands (OutA x to) = x ∷ []
-operands (XorB x y) = x ∷ y ∷ []
-operands (XorConstB x c) = x ∷ []
-operands (SliceB x at) = x ∷ []
-operands (JoinB x y) = x ∷ y ∷ []
-operands (AndB x y) = x ∷ y ∷ []
-operands (OutB x to) = x ∷ []
-operands _ = []
+operands kind = map (λ used. used.gate) (uses kind)
 
 -- the party that a gate names: whose input it is, or who alone is told
 abbrev pub party_of : Kind → Option ℕ
@@ -123,3 +144,11 @@ constant_of _ = 0
 -- the width of the value of the gate at a place, and 0 where there is none
 abbrev pub width_at : List Gate → ℕ → ℕ
 width_at gates x = unwrap_or (option_map (λ gate. gate.width) (slice_get gates x)) 0
+
+-- the width of the value of a gate's first operand, and 0 where it has none
+abbrev pub width_of_operand : List Gate → Option ℕ → ℕ
+width_of_operand gates None = 0
+width_of_operand gates (Some x) = width_at gates x
+
+abbrev pub low_width : List Gate → Kind → ℕ
+low_width gates kind = width_of_operand gates (slice_get (operands kind) 0)

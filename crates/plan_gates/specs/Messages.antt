@@ -1,5 +1,5 @@
 -- The messages of a plan: who sends what to whom at which gate, in which round.
-use Rattle.std.specs.Prelude.{ℕ, zero, suc, ◌≡◌, ◌+◌, ◌*◌, Bool, false, ◌&&◌, not, ◌==◌, nat_lt, List, [], ◌∷◌, ◌++◌, length, filter, slice_get, Option, Some, None, option_map, is_some, if◌then◌else◌}
+use Rattle.std.specs.Prelude.{ℕ, zero, suc, ◌≡◌, ◌≤◌, ◌+◌, ◌*◌, Bool, false, ◌&&◌, not, ◌==◌, nat_lt, List, [], ◌∷◌, ◌++◌, length, filter, slice_get, Option, Some, None, option_map, is_some, if◌then◌else◌}
 use Rattle.std.specs.List.{list_any}
 use Rattle.std.specs.Option.{unwrap_or}
 use Rattle.share_types.specs.Sums.{each}
@@ -10,7 +10,7 @@ use Rattle.message_demux.specs.declared.slots.Shape.TheVariants.{Words, Vectors}
 use Rattle.message_demux.specs.Slots.{listed, slot_at, vector_bytes, IsSlotList}
 use Rattle.plan_gates.specs.declared.message.Message.{Message}
 use Rattle.plan_gates.specs.Gate.{Kind, Gate, InA, MulA, OutA, InB, AndB, OutB, receiver_of}
-use Rattle.plan_gates.specs.Plan.{Gates}
+use Rattle.plan_gates.specs.Plan.{Gates, Sizes, sizes_of}
 
 -- so many words of 8 bytes, and so many vectors of a width
 abbrev pub words : ℕ → Message
@@ -19,19 +19,21 @@ words count = record { len = 8 * count; shape = Words }
 abbrev pub vectors : ℕ → ℕ → Message
 vectors count width = record { len = count * vector_bytes width; shape = Vectors count width }
 
--- what one party sends another at a gate of a width, in each round in order; in a round without a message, none
-abbrev pub messages_of : Kind → ℕ → ℕ → ℕ → List (Option Message)
-messages_of (InA party k) width from to = (if from == party then Some (words 1) else None) ∷ []
-messages_of (MulA x y) width from to = Some (words 2) ∷ []
-messages_of (OutA x receiver) width from to = (if includes receiver to then Some (words 1) else None) ∷ []
-messages_of (InB party k at) width from to = (if from == party then Some (vectors 1 width) else None) ∷ []
-messages_of (AndB x y) width from to = Some (vectors 2 width) ∷ []
-messages_of (OutB x receiver) width from to = (if includes receiver to then Some (vectors 1 width) else None) ∷ []
-messages_of _ width from to = []
+-- what one party sends another at a gate, in each round in order, of which there are at most three; in a round without a
+-- message, none
+abbrev pub messages_of : Kind → Sizes → ℕ → ℕ → List (Option Message)
+messages_of (InA party k) sizes from to = (if from == party then Some (words 1) else None) ∷ []
+messages_of (MulA x y) sizes from to = Some (words 2) ∷ []
+messages_of (OutA x receiver) sizes from to = (if includes receiver to then Some (words 1) else None) ∷ []
+messages_of (InB party k at) sizes from to = (if from == party then Some (vectors 1 sizes.width) else None) ∷ []
+messages_of (AndB x y) sizes from to = Some (vectors 2 sizes.width) ∷ []
+messages_of (OutB x receiver) sizes from to =
+    (if includes receiver to then Some (vectors 1 sizes.width) else None) ∷ []
+messages_of _ sizes from to = []
 
-abbrev pub messages_at : Option Gate → ℕ → ℕ → List (Option Message)
-messages_at None from to = []
-messages_at (Some gate) from to = messages_of gate.kind gate.width from to
+abbrev pub messages_at : Gates → Option Gate → ℕ → ℕ → List (Option Message)
+messages_at plan None from to = []
+messages_at plan (Some gate) from to = messages_of gate.kind (sizes_of plan gate) from to
 
 -- two different parties of so many
 abbrev pub are_two : ℕ → ℕ → ℕ → Bool
@@ -41,7 +43,7 @@ are_two parties from to = (nat_lt from parties && nat_lt to parties) && not (fro
 abbrev pub message : Gates → ℕ → ℕ → ℕ → ℕ → Option Message
 message plan from to g round =
     if are_two plan.parties from to
-    then unwrap_or (slice_get (messages_at (slice_get plan.gates g) from to) round) None
+    then unwrap_or (slice_get (messages_at plan (slice_get plan.gates g) from to) round) None
     else None
 
 -- ---- stages
@@ -52,7 +54,11 @@ hears plan to g round = list_any (λ from. is_some (message plan from to g round
 
 -- how many rounds a gate has
 abbrev pub rounds : Gates → ℕ → ℕ
-rounds plan g = length (messages_at (slice_get plan.gates g) 0 0)
+rounds plan g = length (messages_at plan (slice_get plan.gates g) 0 0)
+
+-- each gate has one round at most
+abbrev pub GatesHaveOneRound : Type 0
+GatesHaveOneRound = (plan : Gates) (g : ℕ) → rounds plan g ≤ 1
 
 -- the rounds of a gate in which a party receives, in order
 abbrev pub heard_rounds : Gates → ℕ → ℕ → List ℕ
@@ -73,14 +79,19 @@ awaits plan to g (suc stage) = slice_get (heard_rounds plan to g) stage
 abbrev pub spec_of : ℕ → ℕ → ℕ → Message → SlotSpec
 spec_of from g round m = record { from = record { 0 = from }; gate = g; round = round; len = m.len; shape = m.shape }
 
--- the messages of one party to another at the gates before a place, in order. A gate has one round at most
-abbrev pub slot_list : ℕ → ℕ → Option Message → List SlotSpec
-slot_list from g None = []
-slot_list from g (Some m) = spec_of from g 0 m ∷ []
+-- the messages of one party to another in the rounds of a gate before one, and at the gates before a place, in order
+abbrev pub slot_list : ℕ → ℕ → ℕ → Option Message → List SlotSpec
+slot_list from g round None = []
+slot_list from g round (Some m) = spec_of from g round m ∷ []
+
+abbrev pub slots_in : Gates → ℕ → ℕ → ℕ → ℕ → List SlotSpec
+slots_in plan from to g zero = []
+slots_in plan from to g (suc round) =
+    slots_in plan from to g round ++ slot_list from g round (message plan from to g round)
 
 abbrev pub slots_from : Gates → ℕ → ℕ → ℕ → List SlotSpec
 slots_from plan from to zero = []
-slots_from plan from to (suc g) = slots_from plan from to g ++ slot_list from g (message plan from to g 0)
+slots_from plan from to (suc g) = slots_from plan from to g ++ slots_in plan from to g (rounds plan g)
 
 -- the messages to a party, each in its slot, and no other
 pub record AreSlotsTo (plan : Gates) (to : ℕ) (specs : List SlotSpec) : Type 0 where

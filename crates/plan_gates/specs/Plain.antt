@@ -3,20 +3,30 @@ use Rattle.std.specs.Prelude.{ℕ, zero, suc, ◌+◌, ◌*◌, ◌/◌, ◌%◌
 use Rattle.share_types.specs.declared.receiver.Receiver.{Receiver}
 use Rattle.share_types.specs.Bits.{bits}
 use Rattle.share_types.specs.Sums.{word_difference}
-use Rattle.plan_gates.specs.Gate.{Kind, Gate, InA, ConstA, AddA, SubA, AddConstA, MulConstA, MulA, OutA, InB, ConstB, XorB, XorConstB, SliceB, JoinB, AndB, OutB, operands, receiver_of, width_at}
+use Rattle.plan_gates.specs.Gate.{Kind, Gate, InA, ConstA, AddA, SubA, AddConstA, MulConstA, MulA, OutA, InB, ConstB, XorB, XorConstB, SliceB, JoinB, AndB, OutB, operands, receiver_of, low_width}
 use Rattle.plan_gates.specs.Plan.{Gates}
 
--- what the number of a gate is made of: the numbers of the circuit's inputs, those of its first and its second operand,
--- and the width of the first
-pub record Seen : Type 0 where
+-- what comes from outside: the numbers of the circuit's inputs, and of a value of which each party enters a part of its
+-- own, these parts, by party and by the gate of the value
+pub record Outside : Type 0 where
   pub inputs : List ℕ
+  pub parts : ℕ → ℕ → ℕ
+
+-- inputs alone
+abbrev pub only : List ℕ → Outside
+only inputs = record { inputs = inputs; parts = λ party g. 0 }
+
+-- what the number of a gate is made of: what comes from outside, the numbers of its operands in order, and the width of
+-- the first
+pub record Seen : Type 0 where
+  pub outside : Outside
   pub x : ℕ
   pub y : ℕ
   pub low : ℕ
 
 -- the number of a gate, before it is cut to the gate's width
 abbrev pub number_of : Kind → Seen → ℕ
-number_of (InA party k) v = slice_index v.inputs k
+number_of (InA party k) v = slice_index v.outside.inputs k
 number_of (ConstA c) v = c
 number_of (AddA x y) v = v.x + v.y
 number_of (SubA x y) v = word_difference v.x v.y
@@ -24,7 +34,7 @@ number_of (AddConstA x c) v = v.x + c
 number_of (MulConstA x c) v = v.x * c
 number_of (MulA x y) v = v.x * v.y
 number_of (OutA x to) v = v.x
-number_of (InB party k at) v = slice_index v.inputs k / 2 ^ at
+number_of (InB party k at) v = slice_index v.outside.inputs k / 2 ^ at
 number_of (ConstB c) v = c
 number_of (XorB x y) v = bit_xor v.x v.y
 number_of (XorConstB x c) v = bit_xor v.x c
@@ -38,36 +48,32 @@ abbrev pub operand_number : List ℕ → Option ℕ → ℕ
 operand_number before None = 0
 operand_number before (Some x) = slice_index before x
 
-abbrev pub operand_width : List Gate → Option ℕ → ℕ
-operand_width gates None = 0
-operand_width gates (Some x) = width_at gates x
-
-abbrev pub seen_of : List Gate → List ℕ → List ℕ → Kind → Seen
-seen_of gates inputs before kind = record {
-  inputs = inputs;
+abbrev pub seen_of : List Gate → Outside → List ℕ → Kind → Seen
+seen_of gates outside before kind = record {
+  outside = outside;
   x = operand_number before (slice_get (operands kind) 0);
   y = operand_number before (slice_get (operands kind) 1);
-  low = operand_width gates (slice_get (operands kind) 0);
+  low = low_width gates kind;
 }
 
 -- the number of a gate, from those of the gates before it
-abbrev pub gate_number : List Gate → List ℕ → List ℕ → Gate → ℕ
-gate_number gates inputs before gate = number_of gate.kind (seen_of gates inputs before gate.kind) % 2 ^ gate.width
+abbrev pub gate_number : List Gate → Outside → List ℕ → Gate → ℕ
+gate_number gates outside before gate = number_of gate.kind (seen_of gates outside before gate.kind) % 2 ^ gate.width
 
-abbrev pub number_at : List Gate → List ℕ → List ℕ → Option Gate → ℕ
-number_at gates inputs before None = 0
-number_at gates inputs before (Some gate) = gate_number gates inputs before gate
+abbrev pub number_at : List Gate → Outside → List ℕ → Option Gate → ℕ
+number_at gates outside before None = 0
+number_at gates outside before (Some gate) = gate_number gates outside before gate
 
 -- the numbers of the gates before a place
-abbrev pub plain_before : List Gate → List ℕ → ℕ → List ℕ
-plain_before gates inputs zero = []
-plain_before gates inputs (suc g) =
-    plain_before gates inputs g
-    ++ number_at gates inputs (plain_before gates inputs g) (slice_get gates g) ∷ []
+abbrev pub plain_before : List Gate → Outside → ℕ → List ℕ
+plain_before gates outside zero = []
+plain_before gates outside (suc g) =
+    plain_before gates outside g
+    ++ number_at gates outside (plain_before gates outside g) (slice_get gates g) ∷ []
 
--- the numbers of all gates of a plan, on the numbers of the circuit's inputs
-abbrev pub plain_numbers : Gates → List ℕ → List ℕ
-plain_numbers plan inputs = plain_before plan.gates inputs (length plan.gates)
+-- the numbers of all gates of a plan
+abbrev pub plain_numbers : Gates → Outside → List ℕ
+plain_numbers plan outside = plain_before plan.gates outside (length plan.gates)
 
 -- what an output gate tells: who is told, and the bits
 pub record GateTold : Type 0 where

@@ -1,3 +1,7 @@
+ghost use Rattle.std.specs.Prelude.{◌≡◌, None};
+ghost use Rattle.plan_gates.specs.Gate.{kind_of, operands, receiver_of};
+ghost use Rattle.plan_gates.specs.Operands.{listed};
+
 use mot_base::Party;
 use share_types::{Bits, Receiver};
 
@@ -86,4 +90,59 @@ pub enum GateKind {
         x: u32,
         to: Receiver,
     },
+}
+
+/// The operands of a gate in order, of which there are at most three.
+#[derive(Clone, Copy, Debug, PartialEq, Eq)]
+pub struct Operands {
+    pub first: Option<u32>,
+    pub second: Option<u32>,
+    pub third: Option<u32>,
+}
+
+impl GateKind {
+    /// The gates whose values a gate uses.
+    pub fn operands(self) -> Operands
+        ensures { listed result ≡ operands (kind_of self) }
+    {
+        match self {
+            GateKind::AddA { x, y }
+            | GateKind::SubA { x, y }
+            | GateKind::MulA { x, y }
+            | GateKind::XorB { x, y }
+            | GateKind::JoinB { x, y }
+            | GateKind::AndB { x, y } => first_two(Some(x), Some(y)),
+            GateKind::AddConstA { x, .. }
+            | GateKind::MulConstA { x, .. }
+            | GateKind::OutA { x, .. }
+            | GateKind::XorConstB { x, .. }
+            | GateKind::SliceB { x, .. }
+            | GateKind::OutB { x, .. } => first_two(Some(x), None),
+            GateKind::InA { .. }
+            | GateKind::ConstA { .. }
+            | GateKind::InB { .. }
+            | GateKind::ConstB { .. } => first_two(None, None),
+        }
+    }
+
+    /// Who is told the value of a gate, if it is an output.
+    pub fn receiver(self) -> Option<Receiver>
+        ensures { result ≡ receiver_of (kind_of self) }
+    {
+        match self {
+            GateKind::OutA { to, .. } | GateKind::OutB { to, .. } => Some(to),
+            _ => None,
+        }
+    }
+}
+
+/// At most two operands.
+fn first_two(first: Option<u32>, second: Option<u32>) -> Operands
+    ensures { result ≡ record { first = first; second = second; third = None } }
+{
+    Operands {
+        first,
+        second,
+        third: None,
+    }
 }

@@ -1,6 +1,7 @@
 //! Plans: what each gate does, what it needs, which messages it has, and what a plan computes in plain.
 #![tactic(auto)]
 
+mod draft;
 mod gate;
 mod laws;
 mod message;
@@ -8,7 +9,8 @@ mod needs;
 mod plan;
 mod slots;
 
-pub use gate::GateKind;
-pub use laws::records_never_meet;
+pub use draft::Draft;
+pub use gate::{GateKind, Operands};
+pub use laws::{gates_have_one_round, records_never_meet};
 pub use message_demux::{Shape, SlotSpec};
 pub use plan::Plan;

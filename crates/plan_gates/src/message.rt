@@ -5,9 +5,9 @@ ghost use Rattle.plan_gates.specs.Gate.{kind_of, receiver_of};
 ghost use Rattle.plan_gates.specs.Messages.{words, vectors, messages_of, tells_by};
 
 use crate::gate::GateKind;
+use crate::draft::Sizes;
 use message_demux::Shape;
 use mot_base::Party;
-use share_types::Receiver;
 
 /// A payload that one party sends another: its length in bytes, and how they are to be read.
 #[derive(Clone, Copy, Debug)]
@@ -17,7 +17,7 @@ pub struct Message {
 }
 
 /// So many words of 8 bytes.
-fn words(count: u8) -> Message
+fn words(count: u16) -> Message
     ensures { result ≡ words count }
 {
     Message {
@@ -36,48 +36,61 @@ fn vectors(count: u8, width: u8) -> Message
     }
 }
 
-/// Who is told the value of a gate, if it is an output.
-pub fn receiver_of(kind: GateKind) -> Option<Receiver>
-    ensures { result ≡ receiver_of (kind_of kind) }
-{
-    match kind {
-        GateKind::OutA { to, .. } | GateKind::OutB { to, .. } => Some(to),
-        _ => None,
-    }
-}
-
 /// Whether a gate tells its value to a party.
 pub fn tells(kind: GateKind, party: Party) -> bool
     ensures { result ≡ tells_by party.0 (receiver_of (kind_of kind)) }
 {
-    match receiver_of(kind) {
+    match kind.receiver() {
         Some(receiver) => receiver.includes(party),
         None => false,
     }
 }
 
-/// What one party sends another in a round of a gate of a width, if it sends something.
-pub fn message_in(kind: GateKind, width: u8, from: Party, to: Party, round: u8) -> Option<Message>
-    ensures { result ≡ unwrap_or (slice_get (messages_of (kind_of kind) width from.0 to.0) round) None }
+/// How many rounds of messages a gate has, at most three.
+pub fn rounds_of(kind: GateKind, sizes: Sizes) -> u8
+    ensures { result ≡ length (messages_of (kind_of kind) sizes 0 0) }
+    ensures few { result ≤ 3 }
 {
-    if round == 0 {
-        first_message(kind, width, from, to)
-    } else {
-        None
+    match kind {
+        GateKind::InA { .. }
+        | GateKind::MulA { .. }
+        | GateKind::OutA { .. }
+        | GateKind::InB { .. }
+        | GateKind::AndB { .. }
+        | GateKind::OutB { .. } => 1,
+        _ => 0,
     }
 }
 
-/// What one party sends another in the one round of a gate of a width, if it sends something.
-fn first_message(kind: GateKind, width: u8, from: Party, to: Party) -> Option<Message>
-    ensures { result ≡ unwrap_or (slice_get (messages_of (kind_of kind) width from.0 to.0) 0) None }
+/// What one party sends another in a round of a gate, if it sends something.
+pub fn message_in(
+    kind: GateKind,
+    sizes: Sizes,
+    from: Party,
+    to: Party,
+    round: u8,
+) -> Option<Message>
+    ensures { result ≡ unwrap_or (slice_get (messages_of (kind_of kind) sizes from.0 to.0) round) None }
+{
+    match round {
+        0 => first_message(kind, sizes, from, to),
+        _ => None,
+    }
+}
+
+/// What one party sends another in the first round of a gate, if it sends something.
+fn first_message(kind: GateKind, sizes: Sizes, from: Party, to: Party) -> Option<Message>
+    ensures { result ≡ unwrap_or (slice_get (messages_of (kind_of kind) sizes from.0 to.0) 0) None }
 {
     match kind {
         GateKind::InA { party, .. } if from == party => Some(words(1)),
         GateKind::MulA { .. } => Some(words(2)),
         GateKind::OutA { to: receiver, .. } if receiver.includes(to) => Some(words(1)),
-        GateKind::InB { party, .. } if from == party => Some(vectors(1, width)),
-        GateKind::AndB { .. } => Some(vectors(2, width)),
-        GateKind::OutB { to: receiver, .. } if receiver.includes(to) => Some(vectors(1, width)),
+        GateKind::InB { party, .. } if from == party => Some(vectors(1, sizes.width)),
+        GateKind::AndB { .. } => Some(vectors(2, sizes.width)),
+        GateKind::OutB { to: receiver, .. } if receiver.includes(to) => {
+            Some(vectors(1, sizes.width))
+        }
         _ => None,
     }
 }

@@ -1,9 +1,9 @@
-ghost use Rattle.std.specs.Prelude.{◌≡◌, ◌<◌, ◌≤◌, ◌==◌, ◌++◌, [], ◌∷◌, length, slice_get, option_map, Some, IfOk, IfSome};
-ghost use Rattle.mot_base.specs.Limits.{least_parties, most_parties, most_gates};
+ghost use Rattle.std.specs.Prelude.{◌≡◌, ◌<◌, ◌≤◌, length, slice_get, option_map, Some, IfOk, IfSome};
 ghost use Rattle.plan_gates.specs.Gate.{kind_of, stated_width};
-ghost use Rattle.plan_gates.specs.Plan.{IsGate, IsPlan, no_gates, with_gate};
-ghost use Rattle.plan_gates.specs.Needs.{offset, all_needs};
+ghost use Rattle.plan_gates.specs.Plan.{IsPlan};
+ghost use Rattle.plan_gates.specs.Needs.{needs_at, offset, offsets_of, all_needs};
 
+use crate::draft::Draft;
 use crate::gate::GateKind;
 use crate::needs::needs_of;
 use mot_base::NoMemory;
@@ -11,62 +11,38 @@ use share_types::Needs;
 use std::alloc::Global;
 use std::marker::Model;
 
-/// A gate: what it does, and the width of its value, which is 64 for a word. An output gate has the width of its operand.
-#[derive(Debug, Drop)]
-pub(crate) struct Gate {
-    pub(crate) kind: GateKind,
-    pub(crate) width: u8,
-}
-
-impl Model for Gate {
-    ghost use Rattle.std.specs.Prelude.{IfSome, ◌≡◌};
-    ghost use Rattle.plan_gates.specs.Gate as spec;
-    ghost use Rattle.plan_gates.specs.Gate.{kind_of, stated_width};
-
-    ghost Value = { spec.Gate };
-
-    ghost view = { λ g. record { kind = kind_of g.kind; width = g.width } };
-
-    ghost invariant = { λ g. IfSome (stated_width g.kind) (λ width. width ≡ g.width) };
-}
-
-/// The gates that the parties of a circuit run, of which each stands behind those whose values it uses. Each gate takes
-/// up to 48 bytes.
+/// The gates that the parties of a circuit run, of which each stands behind those whose values it uses.
 #[derive(Debug, Drop)]
 pub struct Plan {
-    parties: u8,
-    gates: Vec<Gate>,
+    pub(crate) draft: Draft,
     offsets: Vec<Needs>,
     needs: Needs,
 }
 
 impl Model for Plan {
-    ghost use Rattle.std.specs.Prelude.{◌≡◌, length};
+    ghost use Rattle.std.specs.Prelude.{◌≡◌};
     ghost use Rattle.plan_gates.specs.Plan.{Gates, IsPlan};
-    ghost use Rattle.plan_gates.specs.Needs.{offset, offsets_of};
+    ghost use Rattle.plan_gates.specs.Needs.{offsets_of, all_needs};
 
     ghost Value = { Gates };
 
-    ghost view = { λ p. record { parties = p.parties; gates = p.gates.items } };
+    ghost view = { λ p. p.draft };
 
-    ghost invariant = { λ p. IsPlan (record { parties = p.parties; gates = p.gates.items })
-        × (p.offsets.items ≡ offsets_of p.gates.items)
-        × (p.needs ≡ offset p.gates.items (length p.gates.items)) };
+    ghost invariant = { λ p. IsPlan p.draft × (p.offsets.items ≡ offsets_of p.draft) × (p.needs ≡ all_needs p.draft) };
 }
 
 impl Plan {
-    /// The plan of no gate.
-    pub fn new(alloc: Global, parties: u8) -> Plan
-        requires some { least_parties ≤ parties }
-        requires most { parties ≤ most_parties }
-        ensures { result ≡ no_gates parties }
+    /// The plan of gates that are one.
+    pub fn of(alloc: Global, draft: Draft) -> Result<Plan, NoMemory>
+        requires { IsPlan draft }
+        ensures { IfOk result (λ plan. plan ≡ draft) }
     {
-        Plan {
-            parties,
-            gates: Vec::new(alloc),
-            offsets: Vec::new(alloc),
-            needs: Needs::none(),
-        }
+        let (offsets, needs) = add_up(alloc, &draft)?;
+        Ok(Plan {
+            draft,
+            offsets,
+            needs,
+        })
     }
 
     /// The number of parties, from 2 to 8.
@@ -74,7 +50,7 @@ impl Plan {
         ensures value { result ≡ self.now.parties }
         ensures plan { IsPlan self.now }
     {
-        self.parties
+        self.draft.parties()
     }
 
     /// The number of gates, at most 4,194,304.
@@ -82,7 +58,7 @@ impl Plan {
         ensures value { result ≡ length self.now.gates }
         ensures plan { IsPlan self.now }
     {
-        self.gates.len() as u32
+        self.draft.gates()
     }
 
     /// What a gate does.
@@ -92,7 +68,7 @@ impl Plan {
         ensures width { IfSome (stated_width result) (λ width.
             option_map (λ g. g.width) (slice_get self.now.gates gate) ≡ Some width) }
     {
-        self.gates[gate as usize].kind
+        self.draft.gate(gate)
     }
 
     /// The width of a gate's value, which is 64 for a word, and that of its operand for an output.
@@ -100,7 +76,7 @@ impl Plan {
         requires { gate < length self.now.gates }
         ensures { option_map (λ g. g.width) (slice_get self.now.gates gate) ≡ Some result }
     {
-        self.gates[gate as usize].width
+        self.draft.width(gate)
     }
 
     /// How many correlations all gates need.
@@ -113,32 +89,31 @@ impl Plan {
     /// How many correlations all gates before this one need.
     pub fn offset(&self, gate: u32) -> Needs
         requires { gate < length self.now.gates }
-        ensures { result ≡ offset self.now.gates gate }
+        ensures { result ≡ offset self.now gate }
     {
         self.offsets[gate as usize]
     }
+}
 
-    /// The plan with one gate more.
-    pub fn with_gate(self, kind: GateKind, width: u8) -> Result<Plan, NoMemory>
-        requires stated { IfSome (stated_width kind) (λ stated. stated ≡ width) }
-        requires gate { IsGate self.parties self.gates (record { kind = kind_of kind; width = width }) }
-        requires room { length self.gates < most_gates }
-        ensures { IfOk result (λ plan. plan ≡ with_gate self (record { kind = kind_of kind; width = width })) }
-    {
-        let Plan {
-            parties,
-            mut gates,
-            mut offsets,
-            needs,
-        } = self;
+/// What all gates before each one need, and what all gates need.
+fn add_up(alloc: Global, draft: &Draft) -> Result<(Vec<Needs>, Needs), NoMemory>
+    requires { IsPlan draft.now }
+    ensures offsets { IfOk result (λ found. found.0.items ≡ offsets_of draft.now) }
+    ensures needs { IfOk result (λ found. found.1 ≡ all_needs draft.now) }
+{
+    let mut offsets = Vec::with_capacity(alloc, draft.gates() as usize)?;
+    let mut needs = Needs::none();
+    for gate in 0..draft.gates() {
         offsets.push(needs)?;
-        gates.push(Gate { kind, width })?;
-        let needs = needs.plus(needs_of(kind, width));
-        Ok(Plan {
-            parties,
-            gates,
-            offsets,
-            needs,
-        })
+        needs = needs.plus(needs_at(draft, gate));
     }
+    Ok((offsets, needs))
+}
+
+/// What a gate needs.
+fn needs_at(draft: &Draft, gate: u32) -> Needs
+    requires { gate < length draft.now.gates }
+    ensures { result ≡ needs_at draft.now gate }
+{
+    needs_of(draft.gate(gate), draft.sizes(gate))
 }

@@ -1,7 +1,7 @@
-ghost use Rattle.std.specs.Prelude.{◌≡◌, ◌<◌, ◌≤◌, length, option_map, IfOk, OnOk};
-ghost use Rattle.plan_gates.specs.Messages.{message, hears, stages, awaits, outputs_of, AreSlotsTo};
+ghost use Rattle.std.specs.Prelude.{◌≡◌, ◌<◌, ◌≤◌, length, option_map, slice_get, Some, IfOk};
+ghost use Rattle.plan_gates.specs.Messages.{message, hears, rounds, stages, awaits, tells, outputs_of, AreSlotsTo};
 
-use crate::message::{Message, message_in, tells};
+use crate::message::{Message, message_in, rounds_of, tells};
 use crate::plan::Plan;
 use message_demux::SlotSpec;
 use mot_base::{NoMemory, Party};
@@ -24,10 +24,19 @@ impl Plan {
         ensures { result ≡ message self.now from.0 to.0 gate round }
     {
         if from.0 < self.parties() && to.0 < self.parties() && from != to {
-            message_in(self.gate(gate), self.width(gate), from, to, round)
+            message_in(self.gate(gate), self.draft.sizes(gate), from, to, round)
         } else {
             None
         }
+    }
+
+    /// How many rounds of messages a gate has, at most three.
+    pub fn rounds(&self, gate: u32) -> u8
+        requires { gate < length self.now.gates }
+        ensures value { result ≡ rounds self.now gate }
+        ensures few { result ≤ 3 }
+    {
+        rounds_of(self.gate(gate), self.draft.sizes(gate))
     }
 
     /// Whether some party sends this one a message in a round of a gate.
@@ -49,7 +58,13 @@ impl Plan {
         requires { gate < length self.now.gates }
         ensures { result ≡ stages self.now party.0 gate }
     {
-        if self.hears(party, gate, 0) { 2 } else { 1 }
+        let mut stages = 1;
+        for round in 0..self.rounds(gate) {
+            if self.hears(party, gate, round) {
+                stages += 1;
+            }
+        }
+        stages
     }
 
     /// The round whose messages a stage of a gate waits for at a party. Stage 0 waits for none.
@@ -57,11 +72,25 @@ impl Plan {
         requires { gate < length self.now.gates }
         ensures { result ≡ awaits self.now party.0 gate stage }
     {
-        if stage == 1 && self.hears(party, gate, 0) {
-            Some(0)
-        } else {
-            None
+        let mut reached = 0;
+        for round in 0..self.rounds(gate) {
+            if !self.hears(party, gate, round) {
+                continue;
+            }
+            reached += 1;
+            if reached == stage {
+                return Some(round);
+            }
         }
+        None
+    }
+
+    /// Whether a gate tells its value to a party.
+    pub fn tells(&self, party: Party, gate: u32) -> bool
+        requires { gate < length self.now.gates }
+        ensures { option_map (tells party.0) (slice_get self.now.gates gate) ≡ Some result }
+    {
+        tells(self.gate(gate), party)
     }
 
     /// How many output gates tell a party, or all.
@@ -70,7 +99,7 @@ impl Plan {
     {
         let mut count = 0;
         for gate in 0..self.gates() {
-            if tells(self.gate(gate), party) {
+            if self.tells(party, gate) {
                 count += 1;
             }
         }
@@ -90,8 +119,8 @@ impl Plan {
 }
 
 impl Plan {
-    ghost use Rattle.std.specs.Prelude.{◌≡◌, ◌≤◌, ◌+◌, ◌++◌, length, OnOk};
-    ghost use Rattle.plan_gates.specs.Messages.{slots_from};
+    ghost use Rattle.std.specs.Prelude.{◌≡◌, ◌<◌, ◌++◌, length, OnOk};
+    ghost use Rattle.plan_gates.specs.Messages.{rounds, slots_in, slots_from};
 
     /// Adds all messages of one party to another at the end.
     fn push_slots(
@@ -104,11 +133,29 @@ impl Plan {
             ≡ slots.old.items ++ slots_from self.now sender.0 receiver.0 (length self.now.gates)) }
     {
         for gate in 0..self.gates() {
-            if let Some(message) = self.message(sender, receiver, gate, 0) {
+            self.push_slots_at(slots, sender, receiver, gate)?;
+        }
+        Ok(())
+    }
+
+    /// Adds the messages of one party to another at a gate at the end.
+    fn push_slots_at(
+        &self,
+        slots: &mut Vec<SlotSpec>,
+        sender: Party,
+        receiver: Party,
+        gate: u32,
+    ) -> Result<(), NoMemory>
+        requires { gate < length self.now.gates }
+        ensures { OnOk result (slots.new.items
+            ≡ slots.old.items ++ slots_in self.now sender.0 receiver.0 gate (rounds self.now gate)) }
+    {
+        for round in 0..self.rounds(gate) {
+            if let Some(message) = self.message(sender, receiver, gate, round) {
                 slots.push(SlotSpec {
                     from: sender,
                     gate,
-                    round: 0,
+                    round,
                     len: message.len,
                     shape: message.shape,
                 })?;
