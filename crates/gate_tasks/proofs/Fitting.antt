@@ -9,7 +9,7 @@ use Rattle.message_demux.specs.Slots.{vector_bytes, overflows, has_high_bits}
 use Rattle.message_demux.specs.Slots as slots
 use Rattle.plan_gates.specs.declared.message.Message.{Message}
 use Rattle.plan_gates.specs.Gate.{Kind, Gate, width_at, InA, MulA, OutA, InB, AndB, OutB}
-use Rattle.plan_gates.specs.Plan.{Gates}
+use Rattle.plan_gates.specs.Plan.{Gates, Sizes, sizes_of}
 use Rattle.plan_gates.specs.Messages.{words, vectors, messages_of, message, are_two}
 use Rattle.share_types.specs.Wires.{includes}
 use Rattle.plan_gates.proofs.MessageLemmas.{gate_there}
@@ -68,19 +68,19 @@ always_given : (b : Bool) (given m : Message) → (if b then first_of (Some give
 always_given true given m e = sym (some_is given m e)
 always_given false given m e = cc
 
-words_sent : (kind : Kind) (w from to : ℕ) (b : Bool) (m : Message) → 0 < words_heard (Some kind) →
-    (if b then first_of (messages_of kind w from to) else None) ≡ Some m → m ≡ words (words_heard (Some kind))
-words_sent (InA party k) w from to b m h e = one_given b (from == party) (words 1) m e
-words_sent (MulA x y) w from to b m h e = always_given b (words 2) m e
-words_sent (OutA x receiver) w from to b m h e = one_given b (includes receiver to) (words 1) m e
-words_sent _ w from to b m h e = absurd (omega (arith, h))
+words_sent : (kind : Kind) (sizes : Sizes) (from to : ℕ) (b : Bool) (m : Message) → 0 < words_heard (Some kind) →
+    (if b then first_of (messages_of kind sizes from to) else None) ≡ Some m → m ≡ words (words_heard (Some kind))
+words_sent (InA party k) sizes from to b m h e = one_given b (from == party) (words 1) m e
+words_sent (MulA x y) sizes from to b m h e = always_given b (words 2) m e
+words_sent (OutA x receiver) sizes from to b m h e = one_given b (includes receiver to) (words 1) m e
+words_sent _ sizes from to b m h e = absurd (omega (arith, h))
 
-vectors_sent : (kind : Kind) (w from to : ℕ) (b : Bool) (m : Message) → 0 < vectors_heard (Some kind) →
-    (if b then first_of (messages_of kind w from to) else None) ≡ Some m → m ≡ vectors (vectors_heard (Some kind)) w
-vectors_sent (InB party k at) w from to b m h e = one_given b (from == party) (vectors 1 w) m e
-vectors_sent (AndB x y) w from to b m h e = always_given b (vectors 2 w) m e
-vectors_sent (OutB x receiver) w from to b m h e = one_given b (includes receiver to) (vectors 1 w) m e
-vectors_sent _ w from to b m h e = absurd (omega (arith, h))
+vectors_sent : (kind : Kind) (sizes : Sizes) (from to : ℕ) (b : Bool) (m : Message) → 0 < vectors_heard (Some kind) →
+    (if b then first_of (messages_of kind sizes from to) else None) ≡ Some m → m ≡ vectors (vectors_heard (Some kind)) sizes.width
+vectors_sent (InB party k at) sizes from to b m h e = one_given b (from == party) (vectors 1 sizes.width) m e
+vectors_sent (AndB x y) sizes from to b m h e = always_given b (vectors 2 sizes.width) m e
+vectors_sent (OutB x receiver) sizes from to b m h e = one_given b (includes receiver to) (vectors 1 sizes.width) m e
+vectors_sent _ sizes from to b m h e = absurd (omega (arith, h))
 
 -- the vectors of a payload without high bits are small
 first_small : (w : ℕ) (bytes : List ℕ) → overflows w (take (vector_bytes w) bytes) ≡ false → big_number (vector_bytes w) bytes < 2 ^ w
@@ -115,7 +115,7 @@ small_at w (suc count) (suc at) bytes h e =
 module _ (plan : Gates) (me g : ℕ) (payloads : List Payload) (are : AreAwaited plan me g (Some 0) payloads) where
   -- the message of each payload, by the kind of the gate
   its_message : (gate : Gate) (payload : Payload) → slice_get plan.gates g ≡ Some gate → (s : Stands plan me g payload) →
-      (if are_two plan.parties s.from me then first_of (messages_of gate.kind gate.width s.from me) else None) ≡ Some s.m
+      (if are_two plan.parties s.from me then first_of (messages_of gate.kind (sizes_of plan gate) s.from me) else None) ≡ Some s.m
   its_message gate payload here s = sym (message_is plan s.from me g gate here) ∙ s.sent
 
   pub words_inside : (kind : Kind) (at : ℕ) → kind_at plan.gates g ≡ Some kind → at < words_heard (Some kind) →
@@ -124,7 +124,7 @@ module _ (plan : Gates) (me g : ℕ) (payloads : List Payload) (are : AreAwaited
       let (gate, here, of) = gate_there plan.gates g kind is in
       let s = stands plan me g payloads i (get_or payloads i d) are h (there_is payloads i d h) in
       let count = ap (λ k. words_heard (Some k)) of in
-      let message_is = words_sent gate.kind gate.width s.from me (are_two plan.parties s.from me) s.m (omega (arith, few, count)) (its_message gate _ here s) in
+      let message_is = words_sent gate.kind (sizes_of plan gate) s.from me (are_two plan.parties s.from me) s.m (omega (arith, few, count)) (its_message gate _ here s) in
       let long = s.shape.0 ∙ ap (λ (m : Message). m.len) message_is in
       omega (arith, long, count, few)
 
@@ -134,7 +134,7 @@ module _ (plan : Gates) (me g : ℕ) (payloads : List Payload) (are : AreAwaited
       let (gate, here, of) = gate_there plan.gates g kind is in
       let s = stands plan me g payloads i (get_or payloads i d) are h (there_is payloads i d h) in
       let count = ap (λ k. vectors_heard (Some k)) of in
-      let message_is = vectors_sent gate.kind gate.width s.from me (are_two plan.parties s.from me) s.m (omega (arith, few, count)) (its_message gate _ here s) in
+      let message_is = vectors_sent gate.kind (sizes_of plan gate) s.from me (are_two plan.parties s.from me) s.m (omega (arith, few, count)) (its_message gate _ here s) in
       let long = s.shape.0 ∙ ap (λ (m : Message). m.len) message_is in
       let wide = its_width plan.gates g gate.width (ap (option_map (λ (y : Gate). y.width)) here) in
       let fits = times_more (vector_bytes gate.width) at (vectors_heard (Some gate.kind)) (omega (arith, few, count)) in
@@ -152,7 +152,7 @@ module _ (plan : Gates) (me g : ℕ) (payloads : List Payload) (are : AreAwaited
       let payload = get_or payloads i d in
       let s = stands plan me g payloads i payload are h (there_is payloads i d h) in
       let count = ap (λ k. vectors_heard (Some k)) of in
-      let message_is = vectors_sent gate.kind gate.width s.from me (are_two plan.parties s.from me) s.m (omega (arith, few, count)) (its_message gate _ here s) in
+      let message_is = vectors_sent gate.kind (sizes_of plan gate) s.from me (are_two plan.parties s.from me) s.m (omega (arith, few, count)) (its_message gate _ here s) in
       let low = ap (λ (m : Message). has_high_bits m.shape payload) (sym message_is) ∙ s.shape.1 in
       let wide = its_width plan.gates g gate.width (ap (option_map (λ (y : Gate). y.width)) here) in
       subst (λ w. vector_in w payload at < 2 ^ w) (sym wide) (small_at gate.width (vectors_heard (Some gate.kind)) at payload (omega (arith, few, count)) low)

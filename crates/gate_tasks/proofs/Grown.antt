@@ -5,7 +5,7 @@ use Rattle.std.specs.Option.{unwrap_or}
 use Rattle.std.proofs.lemmas.List.{length-append}
 use Rattle.std.proofs.lemmas.Bool.{cases_lt}
 use Rattle.share_types.specs.Sums.{total, sum_to}
-use Rattle.plan_gates.proofs.NeedsLemmas.{last, kept}
+use Rattle.mot_base.proofs.Lists.{last_at, before_at}
 
 pub some_is : {X : Type 0} (x y : X) → Some x ≡ Some y → x ≡ y
 some_is x y e = ap (λ o. unwrap_or o x) e
@@ -35,10 +35,10 @@ module _ {X : Type 0} (grown : ℕ → List X) (next : ℕ → X) (none : grown 
   pub grown-get : (g k : ℕ) → k < g → slice_get (grown g) k ≡ Some (next k)
   grown-get zero k h = absurd (omega (arith, h))
   grown-get (suc g) k h = ap (λ xs. slice_get xs k) (more g) ∙ elim (cases_lt k g) as (λ _. slice_get (grown g ++ next g ∷ []) k ≡ Some (next k)) [
-    | inl small ↦ kept (grown g) (next g ∷ []) k (subst (λ n. k < n) (sym (grown-length g)) small) ∙ grown-get g k small
+    | inl small ↦ before_at (grown g) (next g ∷ []) k (subst (λ n. k < n) (sym (grown-length g)) small) ∙ grown-get g k small
     | inr large ↦
         (let here : k ≡ g = omega (arith, h, large) in
-        ap (slice_get (grown g ++ next g ∷ [])) (here ∙ sym (grown-length g)) ∙ (last (grown g) (next g) ∙ ap (λ j. Some (next j)) (sym here)))
+        ap (slice_get (grown g ++ next g ∷ [])) (here ∙ sym (grown-length g)) ∙ (last_at (grown g) (next g) ∙ ap (λ j. Some (next j)) (sym here)))
   ]
 
 pub map_map : {X Y Z : Type 0} (f : Y → Z) (h : X → Y) (xs : List X) → map f (map h xs) ≡ map (λ x. f (h x)) xs

@@ -12,7 +12,7 @@ use Rattle.share_types.specs.Sums.{total, xor_total, sum_to, xor_to, each}
 use Rattle.share_types.proofs.Parties.{total-append, xor_total-append}
 use Rattle.plan_gates.specs.declared.message.Message.{Message}
 use Rattle.plan_gates.specs.Gate.{Kind, Gate, InA, ConstA, AddA, SubA, AddConstA, MulConstA, MulA, OutA, InB, ConstB, XorB, XorConstB, SliceB, JoinB, AndB, OutB, party_of}
-use Rattle.plan_gates.specs.Plan.{Gates, IsPlan}
+use Rattle.plan_gates.specs.Plan.{Gates, IsPlan, Sizes, sizes_of}
 use Rattle.plan_gates.specs.Messages.{words, vectors, messages_of, messages_at, message, are_two, hears}
 use Rattle.share_types.specs.Wires.{includes}
 use Rattle.plan_gates.proofs.MessageLemmas.{any_here, any_more}
@@ -120,8 +120,8 @@ abbrev pub first_of : List (Option Message) → Option Message
 first_of messages = unwrap_or (slice_get messages 0) None
 
 pub message_is : (plan : Gates) (from to g : ℕ) (gate : Gate) → slice_get plan.gates g ≡ Some gate →
-    message plan from to g 0 ≡ (if are_two plan.parties from to then first_of (messages_of gate.kind gate.width from to) else None)
-message_is plan from to g gate e = ap (λ o. if are_two plan.parties from to then first_of (messages_at o from to) else None) e
+    message plan from to g 0 ≡ (if are_two plan.parties from to then first_of (messages_of gate.kind (sizes_of plan gate) from to) else None)
+message_is plan from to g gate e = ap (λ o. if are_two plan.parties from to then first_of (messages_at plan o from to) else None) e
 
 -- whether a party of that number sends another one something at a gate of a kind
 abbrev pub sends : Kind → ℕ → ℕ → Bool
@@ -147,29 +147,20 @@ never_sent : (b : Bool) → is_some (if b then first_of [] else None) ≡ (b && 
 never_sent true = refl
 never_sent false = refl
 
-kind_sends : (kind : Kind) (w from to : ℕ) (b : Bool) →
-    is_some (if b then first_of (messages_of kind w from to) else None) ≡ (b && sends kind from to)
-kind_sends (InA party k) w from to b = if_sent b (from == party) (words 1)
-kind_sends (MulA x y) w from to b = always_sent b (words 2)
-kind_sends (OutA x receiver) w from to b = if_sent b (includes receiver to) (words 1)
-kind_sends (InB party k at) w from to b = if_sent b (from == party) (vectors 1 w)
-kind_sends (AndB x y) w from to b = always_sent b (vectors 2 w)
-kind_sends (OutB x receiver) w from to b = if_sent b (includes receiver to) (vectors 1 w)
-kind_sends (ConstA c) w from to b = never_sent b
-kind_sends (AddA x y) w from to b = never_sent b
-kind_sends (SubA x y) w from to b = never_sent b
-kind_sends (AddConstA x c) w from to b = never_sent b
-kind_sends (MulConstA x c) w from to b = never_sent b
-kind_sends (ConstB c) w from to b = never_sent b
-kind_sends (XorB x y) w from to b = never_sent b
-kind_sends (XorConstB x c) w from to b = never_sent b
-kind_sends (SliceB x at) w from to b = never_sent b
-kind_sends (JoinB x y) w from to b = never_sent b
+kind_sends : (kind : Kind) (sizes : Sizes) (from to : ℕ) (b : Bool) →
+    is_some (if b then first_of (messages_of kind sizes from to) else None) ≡ (b && sends kind from to)
+kind_sends (InA party k) sizes from to b = if_sent b (from == party) (words 1)
+kind_sends (MulA x y) sizes from to b = always_sent b (words 2)
+kind_sends (OutA x receiver) sizes from to b = if_sent b (includes receiver to) (words 1)
+kind_sends (InB party k at) sizes from to b = if_sent b (from == party) (vectors 1 sizes.width)
+kind_sends (AndB x y) sizes from to b = always_sent b (vectors 2 sizes.width)
+kind_sends (OutB x receiver) sizes from to b = if_sent b (includes receiver to) (vectors 1 sizes.width)
+kind_sends _ sizes from to b = never_sent b
 
 pub sends_is : (plan : Gates) (from to g : ℕ) (gate : Gate) → slice_get plan.gates g ≡ Some gate →
     is_some (message plan from to g 0) ≡ (are_two plan.parties from to && sends gate.kind from to)
 sends_is plan from to g gate e =
-    ap is_some (message_is plan from to g gate e) ∙ kind_sends gate.kind gate.width from to (are_two plan.parties from to)
+    ap is_some (message_is plan from to g gate e) ∙ kind_sends gate.kind (sizes_of plan gate) from to (are_two plan.parties from to)
 
 and_false : (b : Bool) → (b && false) ≡ false
 and_false true = refl

@@ -8,11 +8,11 @@ use Rattle.byteorder.specs.Numbers.{length-bytes_high_first}
 use Rattle.byteorder.specs.Endian.{big_bytes}
 use Rattle.message_demux.specs.Slots.{vector_bytes}
 use Rattle.plan_gates.specs.Gate.{Kind, Gate, width_at, InA, ConstA, AddA, SubA, AddConstA, MulConstA, MulA, OutA, InB, ConstB, XorB, XorConstB, SliceB, JoinB, AndB, OutB}
-use Rattle.plan_gates.specs.Plan.{Gates}
+use Rattle.plan_gates.specs.Plan.{Gates, Sizes, sizes_of}
 use Rattle.plan_gates.specs.Messages.{words, vectors, messages_of, messages_at, message, are_two}
 use Rattle.share_types.specs.Wires.{includes}
 use Rattle.gate_tasks.specs.Payload.{word_bytes, vectors_bytes}
-use Rattle.gate_tasks.specs.Party.{Own, Hand, Rounds, width, hand_at, before, silence, gate_sends, sends_at, share, given_word, given_vector, left_word, right_word, left_vector, right_vector}
+use Rattle.gate_tasks.specs.Party.{Own, Hand, Rounds, width, hand_at, before, silence, gate_sends, sends_at, word, vector, given_word, given_vector, left_word, right_word, left_vector, right_vector}
 use Rattle.gate_tasks.specs.Honest.{nobody}
 use Rattle.gate_tasks.specs.Joint.{Payloads, column, sent_by, IsJoint}
 use Rattle.gate_tasks.specs.Laws.{length_of, PayloadsHaveTheirLengths}
@@ -54,41 +54,32 @@ chosen_words true bytes count is = is
 chosen_words false bytes count is = refl
 
 -- what is sent in a round of a gate, and the message that is stated
-fits : (kind : Kind) (w : ℕ) (h : Hand) (got : Rounds) (to r : ℕ) → width h ≡ w →
-    length (get_or (gate_sends kind h got) r silence to) ≡ length_of (unwrap_or (slice_get (messages_of kind w h.me to) r) None)
-fits (InA party k) w h got to zero e =
+fits : (kind : Kind) (sizes : Sizes) (h : Hand) (got : Rounds) (to r : ℕ) → width h ≡ sizes.width →
+    length (get_or (gate_sends kind h got) r silence to) ≡ length_of (unwrap_or (slice_get (messages_of kind sizes h.me to) r) None)
+fits (InA party k) sizes h got to zero e =
     let ws : List ℕ = given_word h to ∷ [] in
     chosen_words (party == h.me) (word_bytes ws) 1 (words-length ws) ∙ ap (λ b. length_of (if b then Some (words 1) else None)) (turned party h.me)
-fits (MulA x y) w h got to zero e = words-length (left_word h x ∷ right_word h y ∷ [])
-fits (OutA x receiver) w h got to zero e =
-    let ws : List ℕ = share h x ∷ [] in
+fits (MulA x y) sizes h got to zero e = words-length (left_word h x ∷ right_word h y ∷ [])
+fits (OutA x receiver) sizes h got to zero e =
+    let ws : List ℕ = word h x ∷ [] in
     chosen_words (includes receiver to) (word_bytes ws) 1 (words-length ws)
-fits (InB party k at) w h got to zero e =
+fits (InB party k at) sizes h got to zero e =
     let vs : List ℕ = given_vector h to ∷ [] in
     chosen (party == h.me) (vectors_bytes (width h) vs) (width h) 1 (vectors-length (width h) vs)
     ∙ ap₂ (λ b v. length_of (if b then Some (vectors 1 v) else None)) (turned party h.me) e
-fits (AndB x y) w h got to zero e =
+fits (AndB x y) sizes h got to zero e =
     vectors-length (width h) (left_vector h x ∷ right_vector h y ∷ []) ∙ ap (λ v. 2 * vector_bytes v) e
-fits (OutB x receiver) w h got to zero e =
-    let vs : List ℕ = share h x ∷ [] in
+fits (OutB x receiver) sizes h got to zero e =
+    let vs : List ℕ = vector h x ∷ [] in
     chosen (includes receiver to) (vectors_bytes (width h) vs) (width h) 1 (vectors-length (width h) vs)
     ∙ ap (λ v. length_of (if includes receiver to then Some (vectors 1 v) else None)) e
-fits (InA party k) w h got to (suc r) e = refl
-fits (MulA x y) w h got to (suc r) e = refl
-fits (OutA x receiver) w h got to (suc r) e = refl
-fits (InB party k at) w h got to (suc r) e = refl
-fits (AndB x y) w h got to (suc r) e = refl
-fits (OutB x receiver) w h got to (suc r) e = refl
-fits (ConstA c) w h got to r e = refl
-fits (AddA x y) w h got to r e = refl
-fits (SubA x y) w h got to r e = refl
-fits (AddConstA x c) w h got to r e = refl
-fits (MulConstA x c) w h got to r e = refl
-fits (ConstB c) w h got to r e = refl
-fits (XorB x y) w h got to r e = refl
-fits (XorConstB x c) w h got to r e = refl
-fits (SliceB x at) w h got to r e = refl
-fits (JoinB x y) w h got to r e = refl
+fits (InA party k) sizes h got to (suc r) e = refl
+fits (MulA x y) sizes h got to (suc r) e = refl
+fits (OutA x receiver) sizes h got to (suc r) e = refl
+fits (InB party k at) sizes h got to (suc r) e = refl
+fits (AndB x y) sizes h got to (suc r) e = refl
+fits (OutB x receiver) sizes h got to (suc r) e = refl
+fits _ sizes h got to r e = refl
 
 none_there : {X : Type 0} {x : X} → None ≡ Some x → ⊥
 none_there h = cc
@@ -105,10 +96,10 @@ first_of n from to both = at (nat_lt from n) refl
 
 module _ (plan : Gates) (owns : List Own) (table : Payloads) (count : length owns ≡ plan.parties) (joint : IsJoint plan owns table) where
   gate_fits : (g r to : ℕ) (h : Hand) (got : Rounds) (o : Option Gate) → slice_get plan.gates g ≡ o → width h ≡ width_at plan.gates g →
-      length (get_or (sends_at o h got) r silence to) ≡ length_of (unwrap_or (slice_get (messages_at o h.me to) r) None)
+      length (get_or (sends_at o h got) r silence to) ≡ length_of (unwrap_or (slice_get (messages_at plan o h.me to) r) None)
   gate_fits g r to h got None found e = refl
   gate_fits g r to h got (Some gate) found e =
-      fits gate.kind gate.width h got to r
+      fits gate.kind (sizes_of plan gate) h got to r
       (e ∙ ap (λ o. unwrap_or (option_map (λ (x : Gate). x.width) o) 0) found)
 
   sent_fits : (g r from to : ℕ) (b : Bool) → are_two plan.parties from to ≡ b → (o : Option Own) → slice_get owns from ≡ o →

@@ -3,10 +3,14 @@ pub mod Unique
 pub mod Bytes
 pub mod Sums
 pub mod Grown
-pub mod Recombining
-pub mod Narrow
 pub mod Xors
 pub mod Triples
+pub mod Sharing
+pub mod JointRun
+pub mod WordsRight
+pub mod VectorsRight
+pub mod Recombining
+pub mod Narrow
 pub mod Lengths
 pub mod Hearing
 pub mod Operands

@@ -15,13 +15,13 @@ use Rattle.message_demux.specs.declared.slots.Shape.{Shape}
 use Rattle.message_demux.specs.declared.slots.Shape.TheVariants.{Vectors}
 use Rattle.message_demux.specs.Slots as slots
 use Rattle.message_demux.specs.Slots.{vector_bytes, overflows, has_high_bits}
-use Rattle.plan_gates.specs.Gate.{Kind, Gate, Given, Vector, gives, width_at, InA, ConstA, AddA, SubA, AddConstA, MulConstA, MulA, OutA, InB, ConstB, XorB, XorConstB, SliceB, JoinB, AndB, OutB}
-use Rattle.plan_gates.specs.Plan.{Gates, IsPlan, IsGate, IsOperand}
+use Rattle.plan_gates.specs.Gate.{Kind, Gate, Vector, vector as vector_use, gives, width_at, InA, ConstA, AddA, SubA, AddConstA, MulConstA, MulA, OutA, InB, ConstB, XorB, XorConstB, SliceB, JoinB, AndB, OutB}
+use Rattle.plan_gates.specs.Plan.{Gates, IsPlan, IsGate, IsOperand, sizes_of}
 use Rattle.plan_gates.specs.declared.message.Message.{Message}
 use Rattle.plan_gates.specs.Messages.{words, vectors, messages_of, messages_at, are_two}
 use Rattle.share_types.specs.Wires.{includes}
 use Rattle.gate_tasks.specs.Party as party
-use Rattle.gate_tasks.specs.Party.{Own, Value, Hand, share_of, share, hand_at, wires_before, party_value, value_at, gate_value, sends_at, gate_sends, before, silence, opened_vector}
+use Rattle.gate_tasks.specs.Party.{Own, Value, Hand, vector_share, hand_at, wires_before, party_value, value_at, gate_value, sends_at, gate_sends, before, silence, opened_vector}
 use Rattle.gate_tasks.specs.Joint.{Payloads, column, sent_by, IsJoint}
 use Rattle.gate_tasks.specs.Honest.{own_at, nobody}
 use Rattle.gate_tasks.specs.Laws.{PayloadsHaveTheirShapes}
@@ -30,7 +30,8 @@ use Rattle.gate_tasks.proofs.Bytes.{fits_bytes}
 use Rattle.gate_tasks.proofs.Causal.{strong}
 use Rattle.gate_tasks.proofs.Grown.{got, there_is, grown-get}
 use Rattle.gate_tasks.proofs.Lengths.{turned}
-use Rattle.gate_tasks.proofs.Recombining.{taken, two, choose, short_vector, and_small, join_small, vector_first, vector_second}
+use Rattle.gate_tasks.proofs.Sharing.{choose, short_vector, and_small, join_small, vector_first, vector_second}
+use Rattle.gate_tasks.proofs.JointRun.{vector_is, sent, wide_is}
 use Rattle.gate_tasks.proofs.Xors.{xor_small}
 
 -- ---- the bytes of narrow vectors
@@ -104,55 +105,33 @@ module _ (plan : Gates) (owns : List Own) (table : Payloads) (valid : IsPlan pla
   abbrev wide : ℕ → ℕ
   wide g = width_at plan.gates g
 
-  share_is : (g k p : ℕ) → k < g → share (at g p) k ≡ share_of (value k p)
-  share_is g k p less =
-      ap share_of
-      (got (wires_before plan p (own p) (column table p) g) k (value k p) (party.Told None)
-      (grown-get (wires_before plan p (own p) (column table p)) (λ j. value j p) refl (λ j. refl) g k less))
-
-  own_there : (p : ℕ) → p < n → slice_get owns p ≡ Some (own p)
-  own_there p small = there_is owns p nobody (subst (λ m. p < m) (sym each) small)
-
   -- what one party is sent by another
-  sent : (g r p q : ℕ) (gate : Gate) → p < n → q < n → (q ≡ p → ⊥) → slice_get plan.gates g ≡ Some gate →
+  sent_in : (g r p q : ℕ) (gate : Gate) → p < n → q < n → (q ≡ p → ⊥) → slice_get plan.gates g ≡ Some gate →
       table g r q p ≡ get_or (gate_sends gate.kind (at g q) (before r (column table q g))) r silence p
-  sent g r p q gate a b apart found =
-      joint g r q p
-      ∙ (ap (λ o. sent_by plan q o (column table q) g r p) (own_there q b)
-      ∙ (ap (λ both. if both then get_or (sends_at (slice_get plan.gates g) (at g q) (before r (column table q g))) r silence p else []) (two n q p b a apart)
-      ∙ ap (λ o. get_or (sends_at o (at g q) (before r (column table q g))) r silence p) found))
-
-  wide_is : (g : ℕ) (here : Gate) → slice_get plan.gates g ≡ Some here → wide g ≡ here.width
-  wide_is g here found = ap (λ o. unwrap_or (option_map (λ (h : Gate). h.width) o) 0) found
+  sent_in g r p q gate = sent plan owns table each joint g r p q gate
 
   abbrev AreSmall : ℕ → (ℕ → ℕ) → Type 0
   AreSmall g f = (p : ℕ) → p < n → f p < 2 ^ wide g
 
   abbrev IsNarrow : ℕ → Type 0
-  IsNarrow g = (here : Gate) → slice_get plan.gates g ≡ Some here → gives here.kind ≡ Vector → AreSmall g (λ p. share_of (value g p))
+  IsNarrow g = (here : Gate) → slice_get plan.gates g ≡ Some here → gives here.kind ≡ Vector → AreSmall g (λ p. vector_share (value g p))
 
   abbrev AreNarrow : ℕ → Type 0
   AreNarrow g = (k : ℕ) → k < g → IsNarrow k
 
-  operand : (g x : ℕ) → AreNarrow g → IsOperand (take g plan.gates) Vector x → (p : ℕ) → p < n → share (at g p) x < 2 ^ wide x
-  operand g x ih (earlier, there, vector) p h =
-      let (less, found) = taken plan.gates g x earlier there in
-      subst (λ s. s < 2 ^ wide x) (sym (share_is g x p less)) (ih x less earlier found vector p h)
-
-  width_before : (g x : ℕ) (what : Given) → IsOperand (take g plan.gates) what x → width_at (take g plan.gates) x ≡ wide x
-  width_before g x what (earlier, there, given_is) =
-      let (less, found) = taken plan.gates g x earlier there in
-      ap (λ o. unwrap_or (option_map (λ (h : Gate). h.width) o) 0) there ∙ sym (wide_is x earlier found)
+  operand : (g x : ℕ) → AreNarrow g → IsOperand plan.gates g (vector_use x) → (p : ℕ) → p < n → party.vector (at g p) x < 2 ^ wide x
+  operand g x ih (less, earlier, found, vector) p h =
+      subst (λ s. s < 2 ^ wide x) (sym (vector_is plan owns table each joint g x p less)) (ih x less earlier found vector p h)
 
   -- an operand as wide as its gate
   fitting : (g x width : ℕ) (kind : Kind) → AreNarrow g → slice_get plan.gates g ≡ Some (record { kind = kind; width = width }) →
-      IsOperand (take g plan.gates) Vector x → width_at (take g plan.gates) x ≡ width → AreSmall g (λ p. share (at g p) x)
+      IsOperand plan.gates g (vector_use x) → wide x ≡ width → AreSmall g (λ p. party.vector (at g p) x)
   fitting g x width kind ih found is fit p h =
-      let same : wide x ≡ wide g = sym (width_before g x Vector is) ∙ (fit ∙ sym (wide_is g (record { kind = kind; width = width }) found)) in
-      subst (λ w. share (at g p) x < 2 ^ w) same (operand g x ih is p h)
+      let same : wide x ≡ wide g = fit ∙ sym (wide_is plan g (record { kind = kind; width = width }) found) in
+      subst (λ w. party.vector (at g p) x < 2 ^ w) same (operand g x ih is p h)
 
   constant_small : (g c width : ℕ) (kind : Kind) → slice_get plan.gates g ≡ Some (record { kind = kind; width = width }) → c < 2 ^ width → c < 2 ^ wide g
-  constant_small g c width kind found small = subst (λ w. c < 2 ^ w) (sym (wide_is g (record { kind = kind; width = width }) found)) small
+  constant_small g c width kind found small = subst (λ w. c < 2 ^ w) (sym (wide_is plan g (record { kind = kind; width = width }) found)) small
 
   public_small : (g c p : ℕ) → c < 2 ^ wide g → part_of_public p c < 2 ^ wide g
   public_small g c p small = choose (wide g) (nat_eq p 0) c 0 small (pow_pos (wide g))
@@ -182,7 +161,7 @@ module _ (plan : Gates) (owns : List Own) (table : Payloads) (valid : IsPlan pla
   input_small g k low owner width p h inside found true e = kept_small g p k low
   input_small g k low owner width p h inside found false e =
       let bytes : table g 0 owner p ≡ vectors_bytes (wide g) (party.given_vector (at g owner) p ∷ []) =
-      sent g 0 p owner (record { kind = InB owner k low; width = width }) h inside (eqb-false owner p e) found
+      sent_in g 0 p owner (record { kind = InB owner k low; width = width }) h inside (eqb-false owner p e) found
       ∙ ap (λ me. if me then vectors_bytes (wide g) (party.given_vector (at g owner) p ∷ []) else []) (eq-eqb owner owner refl) in
       let is : vector_in (wide g) (table g 0 owner p) 0 ≡ party.given_vector (at g owner) p =
       ap (λ b. vector_in (wide g) b 0) bytes ∙ vector_first (wide g) (party.given_vector (at g owner) p) [] (given_small g owner p) in
@@ -192,11 +171,11 @@ module _ (plan : Gates) (owns : List Own) (table : Payloads) (valid : IsPlan pla
   bits_small : (g bit p : ℕ) → party.bits_of (at g p) bit < 2 ^ wide g
   bits_small g bit p = short_vector bit (wide g) (drop (party.first (at g p)).bit (own p).part.bits)
 
-  left_small : (g x : ℕ) → AreSmall g (λ p. share (at g p) x) → AreSmall g (λ p. party.left_vector (at g p) x)
-  left_small g x small p h = xor_lt (wide g) (share (at g p) x) (party.bits_of (at g p) 0) (small p h) (bits_small g 0 p)
+  left_small : (g x : ℕ) → AreSmall g (λ p. party.vector (at g p) x) → AreSmall g (λ p. party.left_vector (at g p) x)
+  left_small g x small p h = xor_lt (wide g) (party.vector (at g p) x) (party.bits_of (at g p) 0) (small p h) (bits_small g 0 p)
 
-  right_small : (g y : ℕ) → AreSmall g (λ p. share (at g p) y) → AreSmall g (λ p. party.right_vector (at g p) y)
-  right_small g y small p h = xor_lt (wide g) (share (at g p) y) (party.bits_of (at g p) 1) (small p h) (bits_small g 1 p)
+  right_small : (g y : ℕ) → AreSmall g (λ p. party.vector (at g p) y) → AreSmall g (λ p. party.right_vector (at g p) y)
+  right_small g y small p h = xor_lt (wide g) (party.vector (at g p) y) (party.bits_of (at g p) 1) (small p h) (bits_small g 1 p)
 
   closed_small : (g d e p : ℕ) → d < 2 ^ wide g → e < 2 ^ wide g → party.closed_vector (at g p) d e < 2 ^ wide g
   closed_small g d e p d_small e_small =
@@ -210,13 +189,13 @@ module _ (plan : Gates) (owns : List Own) (table : Payloads) (valid : IsPlan pla
       (public_small g (bit_and d e) p (and_small w d e d_small))
 
   and_vector_small : (g x y width : ℕ) → slice_get plan.gates g ≡ Some (record { kind = AndB x y; width = width }) →
-      AreSmall g (λ p. share (at g p) x) → AreSmall g (λ p. share (at g p) y) →
+      AreSmall g (λ p. party.vector (at g p) x) → AreSmall g (λ p. party.vector (at g p) y) →
       AreSmall g (λ p. party.conjunction (at g p) x y (λ q. table g 0 q p))
   and_vector_small g x y width found small_x small_y p h =
       let left : ℕ → ℕ = λ q. party.left_vector (at g q) x in
       let right : ℕ → ℕ = λ q. party.right_vector (at g q) y in
       let bytes : (q : ℕ) → q < n → (q ≡ p → ⊥) → table g 0 q p ≡ vectors_bytes (wide g) (left q ∷ right q ∷ []) =
-      λ q b apart. sent g 0 p q (record { kind = AndB x y; width = width }) h b apart found in
+      λ q b apart. sent_in g 0 p q (record { kind = AndB x y; width = width }) h b apart found in
       let firsts : (q : ℕ) → q < n → (q ≡ p → ⊥) → vector_in (wide g) (table g 0 q p) 0 < 2 ^ wide g =
       λ q b apart. subst (λ v. v < 2 ^ wide g)
       (sym (ap (λ s. vector_in (wide g) s 0) (bytes q b apart) ∙ vector_first (wide g) (left q) (right q ∷ []) (left_small g x small_x q b)))
@@ -231,23 +210,22 @@ module _ (plan : Gates) (owns : List Own) (table : Payloads) (valid : IsPlan pla
 
   -- all gates over vectors
   value_small : (g : ℕ) (kind : Kind) (width : ℕ) → AreNarrow g → slice_get plan.gates g ≡ Some (record { kind = kind; width = width }) →
-      IsGate n (take g plan.gates) (record { kind = kind; width = width }) → gives kind ≡ Vector →
-      AreSmall g (λ p. share_of (gate_value kind (at g p) (column table p g)))
+      IsGate plan g (record { kind = kind; width = width }) → gives kind ≡ Vector →
+      AreSmall g (λ p. vector_share (gate_value kind (at g p) (column table p g)))
   value_small g (InB owner k low) width ih found is vector p h = input_small g k low owner width p h is.party found (owner == p) refl
   value_small g (ConstB c) width ih found is vector p h = public_small g c p (constant_small g c width (ConstB c) found is.small)
   value_small g (XorB x y) width ih found is vector p h =
-      xor_lt (wide g) (share (at g p) x) (share (at g p) y)
+      xor_lt (wide g) (party.vector (at g p) x) (party.vector (at g p) y)
       (fitting g x width (XorB x y) ih found is.uses.0 is.fit.0 p h) (fitting g y width (XorB x y) ih found is.uses.1.0 is.fit.1.0 p h)
   value_small g (XorConstB x c) width ih found is vector p h =
-      xor_lt (wide g) (share (at g p) x) (part_of_public p c) (fitting g x width (XorConstB x c) ih found is.uses.0 is.fit.0 p h)
+      xor_lt (wide g) (party.vector (at g p) x) (part_of_public p c) (fitting g x width (XorConstB x c) ih found is.uses.0 is.fit.0 p h)
       (public_small g c p (constant_small g c width (XorConstB x c) found is.small))
-  value_small g (SliceB x low) width ih found is vector p h = mod-lt (share (at g p) x / 2 ^ low) (pow_pos (wide g))
+  value_small g (SliceB x low) width ih found is vector p h = mod-lt (party.vector (at g p) x / 2 ^ low) (pow_pos (wide g))
   value_small g (JoinB x y) width ih found is vector p h =
       let both : wide g ≡ wide x + wide y =
-      wide_is g (record { kind = JoinB x y; width = width }) found
-      ∙ (is.fit ∙ ap₂ (λ u v. u + v) (width_before g x Vector is.uses.0) (width_before g y Vector is.uses.1.0)) in
-      subst (λ w. share (at g p) x + 2 ^ wide x * share (at g p) y < 2 ^ w) (sym both)
-      (join_small (wide x) (wide y) (share (at g p) x) (share (at g p) y) (operand g x ih is.uses.0 p h) (operand g y ih is.uses.1.0 p h))
+      wide_is plan g (record { kind = JoinB x y; width = width }) found ∙ is.fit in
+      subst (λ w. party.vector (at g p) x + 2 ^ wide x * party.vector (at g p) y < 2 ^ w) (sym both)
+      (join_small (wide x) (wide y) (party.vector (at g p) x) (party.vector (at g p) y) (operand g x ih is.uses.0 p h) (operand g y ih is.uses.1.0 p h))
   value_small g (AndB x y) width ih found is vector p h =
       and_vector_small g x y width found
       (fitting g x width (AndB x y) ih found is.uses.0 is.fit.0) (fitting g y width (AndB x y) ih found is.uses.1.0 is.fit.1.0) p h
@@ -263,39 +241,39 @@ module _ (plan : Gates) (owns : List Own) (table : Payloads) (valid : IsPlan pla
 
   narrow : (g : ℕ) → IsNarrow g
   narrow = strong IsNarrow (λ g ih here found vector p h.
-      subst (λ v. share_of v < 2 ^ wide g) (sym (ap (λ o. value_at o (at g p) (column table p g)) found))
+      subst (λ v. vector_share v < 2 ^ wide g) (sym (ap (λ o. value_at o (at g p) (column table p g)) found))
       (value_small g here.kind here.width ih found (valid.each g here found) vector p h))
 
   -- ---- payloads
 
   kind_shaped : (g r from to : ℕ) (kind : Kind) (width : ℕ) → from < n → to < n → (from ≡ to → ⊥) →
       slice_get plan.gates g ≡ Some (record { kind = kind; width = width }) → (m : Message) →
-      unwrap_or (slice_get (messages_of kind width from to) r) None ≡ Some m → has_high_bits m.shape (table g r from to) ≡ false
+      unwrap_or (slice_get (messages_of kind (sizes_of plan (record { kind = kind; width = width })) from to) r) None ≡ Some m → has_high_bits m.shape (table g r from to) ≡ false
   kind_shaped g zero from to (InA owner k) width a b apart found m e = words_shaped (from == owner) 1 m (table g 0 from to) e
   kind_shaped g zero from to (MulA x y) width a b apart found m e = words_shaped true 2 m (table g 0 from to) e
   kind_shaped g zero from to (OutA x receiver) width a b apart found m e = words_shaped (includes receiver to) 1 m (table g 0 from to) e
   kind_shaped g zero from to (InB owner k low) width a b apart found m e =
       let vs : List ℕ = party.given_vector (at g from) to ∷ [] in
       let bytes : table g 0 from to ≡ cond (from == owner) (vectors_bytes (wide g) vs) [] =
-      sent g 0 to from (record { kind = InB owner k low; width = width }) b a apart found
+      sent_in g 0 to from (record { kind = InB owner k low; width = width }) b a apart found
       ∙ ap (λ me. if me then vectors_bytes (wide g) vs else []) (turned owner from) in
       vectors_shaped (from == owner) (wide g) width 1 vs m (table g 0 from to)
-      (wide_is g (record { kind = InB owner k low; width = width }) found) refl (given_small g from to, tt) bytes e
+      (wide_is plan g (record { kind = InB owner k low; width = width }) found) refl (given_small g from to, tt) bytes e
   kind_shaped g zero from to (AndB x y) width a b apart found m e =
       let vs : List ℕ = party.left_vector (at g from) x ∷ party.right_vector (at g from) y ∷ [] in
       let is = valid.each g (record { kind = AndB x y; width = width }) found in
-      vectors_shaped true (wide g) width 2 vs m (table g 0 from to) (wide_is g (record { kind = AndB x y; width = width }) found) refl (
+      vectors_shaped true (wide g) width 2 vs m (table g 0 from to) (wide_is plan g (record { kind = AndB x y; width = width }) found) refl (
         left_small g x (fitting g x width (AndB x y) (λ k less. narrow k) found is.uses.0 is.fit.0) from a,
         (right_small g y (fitting g y width (AndB x y) (λ k less. narrow k) found is.uses.1.0 is.fit.1.0) from a, tt),
       )
-      (sent g 0 to from (record { kind = AndB x y; width = width }) b a apart found) e
+      (sent_in g 0 to from (record { kind = AndB x y; width = width }) b a apart found) e
   kind_shaped g zero from to (OutB x receiver) width a b apart found m e =
-      let vs : List ℕ = share (at g from) x ∷ [] in
+      let vs : List ℕ = party.vector (at g from) x ∷ [] in
       let is = valid.each g (record { kind = OutB x receiver; width = width }) found in
       vectors_shaped (includes receiver to) (wide g) width 1 vs m (table g 0 from to)
-      (wide_is g (record { kind = OutB x receiver; width = width }) found) refl
+      (wide_is plan g (record { kind = OutB x receiver; width = width }) found) refl
       (fitting g x width (OutB x receiver) (λ k less. narrow k) found is.uses.0 is.fit.0 from a, tt)
-      (sent g 0 to from (record { kind = OutB x receiver; width = width }) b a apart found) e
+      (sent_in g 0 to from (record { kind = OutB x receiver; width = width }) b a apart found) e
   kind_shaped g (suc r) from to (InA owner k) width a b apart found m e = cc
   kind_shaped g (suc r) from to (MulA x y) width a b apart found m e = cc
   kind_shaped g (suc r) from to (OutA x receiver) width a b apart found m e = cc
@@ -314,12 +292,12 @@ module _ (plan : Gates) (owns : List Own) (table : Payloads) (valid : IsPlan pla
   kind_shaped g r from to (JoinB x y) width a b apart found m e = cc
 
   gate_shaped : (g r from to : ℕ) (o : Option Gate) → slice_get plan.gates g ≡ o → from < n → to < n → (from ≡ to → ⊥) → (m : Message) →
-      unwrap_or (slice_get (messages_at o from to) r) None ≡ Some m → has_high_bits m.shape (table g r from to) ≡ false
+      unwrap_or (slice_get (messages_at plan o from to) r) None ≡ Some m → has_high_bits m.shape (table g r from to) ≡ false
   gate_shaped g r from to None found a b apart m e = cc
   gate_shaped g r from to (Some gate) found a b apart m e = kind_shaped g r from to gate.kind gate.width a b apart found m e
 
   shaped : (g r from to : ℕ) (both : Bool) → are_two n from to ≡ both → (m : Message) →
-      (if both then unwrap_or (slice_get (messages_at (slice_get plan.gates g) from to) r) None else None) ≡ Some m →
+      (if both then unwrap_or (slice_get (messages_at plan (slice_get plan.gates g) from to) r) None else None) ≡ Some m →
       has_high_bits m.shape (table g r from to) ≡ false
   shaped g r from to false is m e = cc
   shaped g r from to true is m e =

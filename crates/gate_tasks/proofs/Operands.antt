@@ -4,9 +4,10 @@ use Rattle.std.specs.Prelude.{option_map, slice_get, slice_index_or}
 use Rattle.std.specs.List.{AllByRecursion}
 use Rattle.std.specs.Option.{unwrap_or}
 use Rattle.share_types.specs.declared.bits.Bits.{Bits}
-use Rattle.plan_gates.specs.Gate.{Kind, Gate, Given, Word, Vector, width_at, gives, takes, operands, MulA, SliceB, JoinB, AndB}
-use Rattle.plan_gates.specs.Plan.{Gates, IsPlan, IsOperand, FitWidths}
-use Rattle.plan_gates.specs.Needs.{offset, needs_at, needs_of}
+use Rattle.plan_gates.specs.Gate.{Kind, Gate, Given, Use, Word, Vector, width_at, gives, uses, operands, MulA, SliceB, JoinB, AndB}
+use Rattle.plan_gates.specs.Plan.{Gates, IsPlan, IsOperand, FitWidths, Sizes, sizes_of}
+use Rattle.plan_gates.specs.Needs.{offset, needs_at, needs_there, needs_of}
+use Rattle.mot_base.proofs.Lists.{all_at, mapped_at, inside_of, same_some, mapped_some}
 use Rattle.plan_gates.proofs.MessageLemmas.{gate_there}
 use Rattle.mot_base.specs.Limits.{most_width}
 use Rattle.share_types.specs.declared.needs.Kind.TheVariants.{Bit}
@@ -14,45 +15,40 @@ use Rattle.dealer_files.specs.Part.{Part}
 use Rattle.gate_tasks.specs.declared.own.Own.{Own as OwnInMemory}
 use Rattle.gate_tasks.specs.Honest.{Taken, taken_by}
 use Rattle.gate_tasks.specs.Stage.{taken_from, Serves, AreOperands, IsOf, kind_at, operands_of}
-use Rattle.gate_tasks.specs.ByValue.{takes_of, keeps_width, is_conjunction, is_product, words_heard, vectors_heard}
+use Rattle.gate_tasks.specs.ByValue.{taken_at, keeps_width, is_conjunction, is_product, words_heard, vectors_heard}
 use Rattle.gate_tasks.specs.declared.value.Value.{Value as ValueInMemory}
 use Rattle.gate_tasks.specs.declared.value.Value.TheVariants as code
 use Rattle.gate_tasks.proofs.Grown.{some_is, there_is}
 
-by_index : {X : Type 0} (P : X → Type 0) (xs : List X) (i : ℕ) (x : X) → AllByRecursion P xs → slice_get xs i ≡ Some x → P x
-by_index P [] i x all e = cc
-by_index P (y ∷ ys) zero x all e = subst P (some_is y x e) all.0
-by_index P (y ∷ ys) (suc i) x all e = by_index P ys i x all.1 e
-
-taken : {X : Type 0} (xs : List X) (k i : ℕ) (x : X) → slice_get (take k xs) i ≡ Some x → slice_get xs i ≡ Some x
-taken xs zero i x h = cc
-taken [] (suc k) i x h = cc
-taken (y ∷ xs) (suc k) zero x h = h
-taken (y ∷ xs) (suc k) (suc i) x h = taken xs k i x h
-
-mapped : {X Y : Type 0} (f : X → Y) (xs : List X) (i : ℕ) (x : X) → slice_get xs i ≡ Some x → slice_get (map f xs) i ≡ Some (f x)
-mapped f [] i x e = cc
-mapped f (y ∷ ys) zero x e = ap (λ (z : _). Some (f z)) (some_is y x e)
-mapped f (y ∷ ys) (suc i) x e = mapped f ys i x e
-
 -- the gate of an operand
-pub record Used (plan : Gates) (gate : Gate) (x : ℕ) : Type 0 where
+pub record Used (plan : Gates) (u : Use) : Type 0 where
   pub used : Gate
-  pub there : slice_get plan.gates x ≡ Some used
-  pub gives_it : gives used.kind ≡ takes gate.kind
+  pub there : slice_get plan.gates u.gate ≡ Some used
+  pub gives_it : gives used.kind ≡ u.given
 
-pub used_at : (plan : Gates) (g : ℕ) (gate : Gate) (i x : ℕ) → IsPlan plan → slice_get plan.gates g ≡ Some gate →
-    slice_get (operands gate.kind) i ≡ Some x → Used plan gate x
-used_at plan g gate i x valid here at =
-    let (used, there, is) = by_index (IsOperand (take g plan.gates) (takes gate.kind)) (operands gate.kind) i x (valid.each g gate here).uses at in
-    record { used = used; there = taken plan.gates g x used there; gives_it = is }
+pub used_at : (plan : Gates) (g : ℕ) (gate : Gate) (i : ℕ) (u : Use) → IsPlan plan → slice_get plan.gates g ≡ Some gate →
+    slice_get (uses gate.kind) i ≡ Some u → Used plan u
+used_at plan g gate i u valid here at =
+    let (less, used, there, is) = all_at (IsOperand plan.gates g) (uses gate.kind) i u (valid.each g gate here).uses at in
+    record { used = used; there = there; gives_it = is }
 
 -- the value of an operand has its gate's type
-pub typed_at : (plan : Gates) (g : ℕ) (gate : Gate) (wires : List ValueInMemory) (i x : ℕ) (value : ValueInMemory) →
-    (u : Used plan gate x) → AreOperands plan g wires → slice_get plan.gates g ≡ Some gate →
-    slice_get (operands gate.kind) i ≡ Some x → slice_get wires i ≡ Some value → IsOf u.used value
-typed_at plan g gate wires i x value u are here at found =
-    are.types i x u.used value (ap (λ o. slice_get (operands_of (option_map (λ (y : Gate). y.kind) o)) i) here ∙ at) u.there found
+pub typed_at : (plan : Gates) (g : ℕ) (gate : Gate) (wires : List ValueInMemory) (i : ℕ) (u : Use) (value : ValueInMemory) →
+    (it : Used plan u) → AreOperands plan g wires → slice_get plan.gates g ≡ Some gate →
+    slice_get (uses gate.kind) i ≡ Some u → slice_get wires i ≡ Some value → IsOf it.used value
+typed_at plan g gate wires i u value it are here at found =
+    are.types i u.gate it.used value
+    (ap (λ o. slice_get (operands_of (option_map (λ (y : Gate). y.kind) o)) i) here ∙ mapped_at (λ (v : Use). v.gate) (uses gate.kind) i u at)
+    it.there found
+
+-- what an operand of a gate is, where its number is known
+pub use_there : (kind : Kind) (i x : ℕ) → slice_get (operands kind) i ≡ Some x → (u : Use) × (slice_get (uses kind) i ≡ Some u) × (u.gate ≡ x)
+use_there kind i x at = there (uses kind) i at
+  where
+    there : (us : List Use) (i : ℕ) → slice_get (map (λ (v : Use). v.gate) us) i ≡ Some x → (u : Use) × (slice_get us i ≡ Some u) × (u.gate ≡ x)
+    there [] i e = cc
+    there (u ∷ us) zero e = (u, refl, same_some u.gate x e)
+    there (u ∷ us) (suc i) e = there us i e
 
 word_only : (gate : Gate) (value : ValueInMemory) → gives gate.kind ≡ Word → IsOf gate value → ((w : ℕ) → value ≡ code.A w → ⊥) → ⊥
 word_only gate (code.A w) e is never = never w refl
@@ -67,48 +63,48 @@ vector_only gate (code.Told t) e is never = let other = sym e ∙ is.0 in cc
 module _ (plan : Gates) (g : ℕ) (wires : List ValueInMemory) (valid : IsPlan plan) (are : AreOperands plan g wires) where
   -- an operand of a gate whose operands are known
   record Standing (given : Given) (at : ℕ) (value : ValueInMemory) : Type 0 where
-    gate : Gate
-    here : slice_get plan.gates g ≡ Some gate
-    takes_it : takes gate.kind ≡ given
-    x : ℕ
-    operand : slice_get (operands gate.kind) at ≡ Some x
-    use_it : Used plan gate x
-    typed : IsOf use_it.used value
+    u : Use
+    it : Used plan u
+    is : gives it.used.kind ≡ given
+    typed : IsOf it.used value
 
-  standing : (given : Given) (at : ℕ) (value : ValueInMemory) → takes_of (kind_at plan.gates g) ≡ Some given →
-      at < length (operands_of (kind_at plan.gates g)) → slice_get wires at ≡ Some value → Standing given at value
-  standing given at value is inside found = by (slice_get plan.gates g) refl
+  standing : (given : Given) (at : ℕ) (value : ValueInMemory) → taken_at (kind_at plan.gates g) at ≡ Some given →
+      slice_get wires at ≡ Some value → Standing given at value
+  standing given at value is found = by (slice_get plan.gates g) refl is
     where
-      by : (o : Option Gate) → slice_get plan.gates g ≡ o → Standing given at value
-      by None e = let none = ap (λ (p : Option Gate). takes_of (option_map (λ (y : Gate). y.kind) p)) (sym e) ∙ is in cc
-      by (Some gate) e =
-          let within : at < length (operands gate.kind) = subst (λ (p : Option Gate). at < length (operands_of (option_map (λ (y : Gate). y.kind) p))) e inside in
-          let x = get_or (operands gate.kind) at 0 in
-          let there = there_is (operands gate.kind) at 0 within in
-          let u = used_at plan g gate at x valid e there in
-          record {
-            gate = gate;
-            here = e;
-            takes_it = some_is (takes gate.kind) given (ap (λ (p : Option Gate). takes_of (option_map (λ (y : Gate). y.kind) p)) (sym e) ∙ is);
-            x = x;
-            operand = there;
-            use_it = u;
-            typed = typed_at plan g gate wires at x value u are e there found;
-          }
+      by : (o : Option Gate) → slice_get plan.gates g ≡ o → taken_at (option_map (λ (y : Gate). y.kind) o) at ≡ Some given → Standing given at value
+      by None e f = cc
+      by (Some gate) e f =
+          let (u, there, same) = mapped_some (λ (v : Use). v.given) (slice_get (uses gate.kind) at) given f in
+          let it = used_at plan g gate at u valid e there in
+          record { u = u; it = it; is = it.gives_it ∙ sym same; typed = typed_at plan g gate wires at u value it are e there found }
 
-  pub word_there : (at : ℕ) (d : ValueInMemory) → takes_of (kind_at plan.gates g) ≡ Some Word →
-      at < length (operands_of (kind_at plan.gates g)) → ((w : ℕ) → slice_index_or wires at d ≡ code.A w → ⊥) → ⊥
-  word_there at d is inside never =
-      let within : at < length wires = subst (λ n. at < n) (sym are.count) inside in
-      let s = standing Word at (slice_index_or wires at d) is inside (there_is wires at d within) in
-      word_only s.use_it.used (slice_index_or wires at d) (s.use_it.gives_it ∙ s.takes_it) s.typed never
+  -- an operand that is taken is there
+  pub inside_at : (at : ℕ) (given : Given) → taken_at (kind_at plan.gates g) at ≡ Some given → at < length (operands_of (kind_at plan.gates g))
+  inside_at at given is = by (kind_at plan.gates g) is
+    where
+      by : (o : Option Kind) → taken_at o at ≡ Some given → at < length (operands_of o)
+      by None f = cc
+      by (Some kind) f =
+          let (u, there, same) = mapped_some (λ (v : Use). v.given) (slice_get (uses kind) at) given f in
+          inside_of (operands kind) at u.gate (mapped_at (λ (v : Use). v.gate) (uses kind) at u there)
 
-  pub vector_there : (at : ℕ) (d : ValueInMemory) → takes_of (kind_at plan.gates g) ≡ Some Vector →
-      at < length (operands_of (kind_at plan.gates g)) → ((v : _) → slice_index_or wires at d ≡ code.B v → ⊥) → ⊥
-  vector_there at d is inside never =
-      let within : at < length wires = subst (λ n. at < n) (sym are.count) inside in
-      let s = standing Vector at (slice_index_or wires at d) is inside (there_is wires at d within) in
-      vector_only s.use_it.used (slice_index_or wires at d) (s.use_it.gives_it ∙ s.takes_it) s.typed never
+  pub found_there : (at : ℕ) (given : Given) (d v : ValueInMemory) → taken_at (kind_at plan.gates g) at ≡ Some given →
+      slice_index_or wires at d ≡ v → slice_get wires at ≡ Some v
+  found_there at given d v is e =
+      there_is wires at d (subst (λ n. at < n) (sym are.count) (inside_at at given is)) ∙ ap (λ (y : ValueInMemory). Some y) e
+
+  pub word_there : (at : ℕ) (d : ValueInMemory) → taken_at (kind_at plan.gates g) at ≡ Some Word →
+      ((w : ℕ) → slice_index_or wires at d ≡ code.A w → ⊥) → ⊥
+  word_there at d is never =
+      let s = standing Word at (slice_index_or wires at d) is (found_there at Word d (slice_index_or wires at d) is refl) in
+      word_only s.it.used (slice_index_or wires at d) s.is s.typed never
+
+  pub vector_there : (at : ℕ) (d : ValueInMemory) → taken_at (kind_at plan.gates g) at ≡ Some Vector →
+      ((v : _) → slice_index_or wires at d ≡ code.B v → ⊥) → ⊥
+  vector_there at d is never =
+      let s = standing Vector at (slice_index_or wires at d) is (found_there at Vector d (slice_index_or wires at d) is refl) in
+      vector_only s.it.used (slice_index_or wires at d) s.is s.typed never
 
 -- ---- widths
 
@@ -126,14 +122,10 @@ pub same_width : (plan : Gates) (g : ℕ) (kind : Kind) (i x : ℕ) → IsPlan p
 same_width plan g kind i x valid is keeps at =
     let (gate, here, of) = gate_there plan.gates g kind is in
     let found : slice_get (operands gate.kind) i ≡ Some x = ap (λ k. slice_get (operands k) i) of ∙ at in
-    let u = used_at plan g gate i x valid here found in
-    let all = fit_same gate.kind gate.width (map (width_at (take g plan.gates)) (operands gate.kind)) (ap (λ k. keeps_width (Some k)) of ∙ keeps) (valid.each g gate here).fit in
-    let before : width_at (take g plan.gates) x ≡ gate.width =
-    by_index (λ v. v ≡ gate.width) (map (width_at (take g plan.gates)) (operands gate.kind)) i (width_at (take g plan.gates) x) all
-    (mapped (width_at (take g plan.gates)) (operands gate.kind) i x found) in
-    let (used, there, given) = by_index (IsOperand (take g plan.gates) (takes gate.kind)) (operands gate.kind) i x (valid.each g gate here).uses found in
-    width_of plan.gates x used (taken plan.gates g x used there)
-    ∙ (sym (width_of (take g plan.gates) x used there) ∙ (before ∙ sym (width_of plan.gates g gate here)))
+    let all = fit_same gate.kind gate.width (map (width_at plan.gates) (operands gate.kind)) (ap (λ k. keeps_width (Some k)) of ∙ keeps) (valid.each g gate here).fit in
+    all_at (λ v. v ≡ gate.width) (map (width_at plan.gates) (operands gate.kind)) i (width_at plan.gates x) all
+    (mapped_at (width_at plan.gates) (operands gate.kind) i x found)
+    ∙ sym (width_of plan.gates g gate here)
 
 module _ (plan : Gates) (g : ℕ) (wires : List ValueInMemory) (valid : IsPlan plan) (are : AreOperands plan g wires) where
   -- an operand that is a vector has its gate's width
@@ -145,9 +137,10 @@ module _ (plan : Gates) (g : ℕ) (wires : List ValueInMemory) (valid : IsPlan p
           v.width ≡ width_at plan.gates x
       by None e f = cc
       by (Some gate) e f =
-          let u = used_at plan g gate at x valid e f in
-          let typed = typed_at plan g gate wires at x (code.B v) u are e f found in
-          typed.1 ∙ sym (width_of plan.gates x u.used u.there)
+          let (u, there, same) = use_there gate.kind at x f in
+          let it = used_at plan g gate at u valid e there in
+          let typed = typed_at plan g gate wires at u (code.B v) it are e there found in
+          typed.1 ∙ sym (ap (width_at plan.gates) (sym same) ∙ width_of plan.gates u.gate it.used it.there)
 
   pub vector_same : (at : ℕ) (v : Bits) → slice_get wires at ≡ Some (code.B v) → keeps_width (kind_at plan.gates g) ≡ true →
       at < length (operands_of (kind_at plan.gates g)) → v.width ≡ width_at plan.gates g
@@ -160,18 +153,13 @@ module _ (plan : Gates) (g : ℕ) (wires : List ValueInMemory) (valid : IsPlan p
           let there = there_is (operands kind) at 0 h in
           vector_width at x v found (ap (λ o. slice_get (operands_of o) at) e ∙ there) ∙ same_width plan g kind at x valid e f there
 
-  pub found_there : (at : ℕ) (d v : ValueInMemory) → at < length (operands_of (kind_at plan.gates g)) →
-      slice_index_or wires at d ≡ v → slice_get wires at ≡ Some v
-  found_there at d v inside is =
-      there_is wires at d (subst (λ n. at < n) (sym are.count) inside) ∙ ap (λ (y : ValueInMemory). Some y) is
-
 -- ---- records
 
 -- the bit triples of an AND
 pub record HasBits (plan : Gates) (own : OwnInMemory) (part : Part) (g : ℕ) : Type 0 where
   pub some : 1 ≤ width_at plan.gates g
   pub most : width_at plan.gates g ≤ most_width
-  pub there : (own.bases.bit + (offset plan.gates g).bit) + width_at plan.gates g ≤ length part.bits
+  pub there : (own.bases.bit + (offset plan g).bit) + width_at plan.gates g ≤ length part.bits
 
 pub has_bits : (plan : Gates) (own : OwnInMemory) (part : Part) (g : ℕ) → IsPlan plan → Serves plan own part g →
     is_conjunction (kind_at plan.gates g) ≡ true → HasBits plan own part g
@@ -184,7 +172,7 @@ has_bits plan own part g valid serves is = by (slice_get plan.gates g) refl is
         let valid_gate = valid.each g gate e in
         let some = valid_gate.some_width in
         let most = valid_gate.in_width in
-        let needed : (needs_at (slice_get plan.gates g)).bit ≡ gate.width = ap (λ o. (needs_at o).bit) e ∙ of_and gate.kind gate.width f in
+        let needed : (needs_at plan g).bit ≡ gate.width = ap (λ o. (needs_there plan o).bit) e ∙ of_and gate.kind (sizes_of plan gate) f in
         let enough = serves.records Bit (subst (λ n. 0 < n) (sym needed) (omega (arith, some))) in
         record {
           some = subst (λ n. 1 ≤ n) (sym w) some;
@@ -192,31 +180,22 @@ has_bits plan own part g valid serves is = by (slice_get plan.gates g) refl is
           there = let whole = enough in omega (arith, whole, needed, w);
         }
       where
-        of_and : (kind : Kind) (w : ℕ) → is_conjunction (Some kind) ≡ true → (needs_of kind w).bit ≡ w
-        of_and (AndB x y) w e = refl
-        of_and _ w e = cc
+        of_and : (kind : Kind) (sizes : Sizes) → is_conjunction (Some kind) ≡ true → (needs_of kind sizes).bit ≡ sizes.width
+        of_and (AndB x y) sizes e = refl
+        of_and _ sizes e = cc
 
 pub its_width : (gates : List Gate) (g w : ℕ) → option_map (λ (y : Gate). y.width) (slice_get gates g) ≡ Some w → width_at gates g ≡ w
 its_width gates g w e = ap (λ o. unwrap_or o 0) e
 
 -- ---- widths of operands
 
-widths_same : (before gates : List Gate) (given : Given) (xs : List ℕ) → ((x : ℕ) (gate : Gate) → slice_get before x ≡ Some gate → slice_get gates x ≡ Some gate) →
-    AllByRecursion (IsOperand before given) xs → map (width_at before) xs ≡ map (width_at gates) xs
-widths_same before gates given [] there all = refl
-widths_same before gates given (x ∷ xs) there all =
-    let (gate, at, is) = all.0 in
-    ap₂ (λ w ws. w ∷ ws) (width_of before x gate at ∙ sym (width_of gates x gate (there x gate at))) (widths_same before gates given xs there all.1)
-
 pub fits_at : (plan : Gates) (g : ℕ) (kind : Kind) → IsPlan plan → kind_at plan.gates g ≡ Some kind →
     FitWidths kind (width_at plan.gates g) (map (width_at plan.gates) (operands kind))
 fits_at plan g kind valid is =
     let (gate, here, of) = gate_there plan.gates g kind is in
-    let fit = (valid.each g gate here).fit in
-    let same = widths_same (take g plan.gates) plan.gates (takes gate.kind) (operands gate.kind) (λ x y. taken plan.gates g x y) (valid.each g gate here).uses in
     subst (λ k. FitWidths k (width_at plan.gates g) (map (width_at plan.gates) (operands k))) of
     (subst (λ w. FitWidths gate.kind w (map (width_at plan.gates) (operands gate.kind))) (sym (width_of plan.gates g gate here))
-    (subst (λ ws. FitWidths gate.kind gate.width ws) same fit))
+    (valid.each g gate here).fit)
 
 -- a gate has some width, and at most the most
 pub wide_at : (plan : Gates) (g : ℕ) (kind : Kind) → IsPlan plan → kind_at plan.gates g ≡ Some kind →
@@ -227,14 +206,13 @@ wide_at plan g kind valid is =
     (subst (λ n. 1 ≤ n) (sym w) (valid.each g gate here).some_width, subst (λ n. n ≤ most_width) (sym w) (valid.each g gate here).in_width)
 
 -- what takes words has their width
-pub word_width : (plan : Gates) (g : ℕ) (kind : Kind) (x : ℕ) → IsPlan plan → kind_at plan.gates g ≡ Some kind →
-    takes kind ≡ Word → keeps_width (Some kind) ≡ true → slice_get (operands kind) 0 ≡ Some x → width_at plan.gates g ≡ most_width
-word_width plan g kind x valid is words keeps at =
+pub word_width : (plan : Gates) (g : ℕ) (kind : Kind) (u : Use) → IsPlan plan → kind_at plan.gates g ≡ Some kind →
+    slice_get (uses kind) 0 ≡ Some u → u.given ≡ Word → keeps_width (Some kind) ≡ true → width_at plan.gates g ≡ most_width
+word_width plan g kind u valid is at word keeps =
     let (gate, here, of) = gate_there plan.gates g kind is in
-    let found : slice_get (operands gate.kind) 0 ≡ Some x = ap (λ k. slice_get (operands k) 0) of ∙ at in
-    let u = used_at plan g gate 0 x valid here found in
-    let word : gives u.used.kind ≡ Word = u.gives_it ∙ (ap takes of ∙ words) in
-    sym (same_width plan g kind 0 x valid is keeps at) ∙ (width_of plan.gates x u.used u.there ∙ (valid.each x u.used u.there).word word)
+    let it = used_at plan g gate 0 u valid here (ap (λ k. slice_get (uses k) 0) of ∙ at) in
+    sym (same_width plan g kind 0 u.gate valid is keeps (mapped_at (λ (v : Use). v.gate) (uses kind) 0 u at))
+    ∙ (width_of plan.gates u.gate it.used it.there ∙ (valid.each u.gate it.used it.there).word (it.gives_it ∙ word))
 
 -- ---- kinds that are asked for by a test
 

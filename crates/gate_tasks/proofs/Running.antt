@@ -7,14 +7,14 @@ use Rattle.std.specs.Option.{unwrap_or}
 use Rattle.share_types.specs.Sums.{each}
 use Rattle.plan_gates.specs.declared.message.Message.{Message}
 use Rattle.plan_gates.specs.Gate.{Kind, Gate, InA, MulA, OutA, InB, AndB, OutB, operands}
-use Rattle.plan_gates.specs.Plan.{Gates, IsPlan}
+use Rattle.plan_gates.specs.Plan.{Gates, IsPlan, Sizes, sizes_of}
 use Rattle.plan_gates.specs.Messages.{message, messages_of, messages_at, are_two, hears, rounds, stages, awaits}
 use Rattle.plan_gates.proofs.MessageLemmas.{heard_is}
-use Rattle.gate_tasks.specs.Party.{Own, Value, Told, Payload, Hand, Rounds, share_of, silence, sends_at, gate_sends, gate_value, round_sends, value_at, WordShare, VectorShare, kept_word, kept_vector, width}
+use Rattle.gate_tasks.specs.Party.{Own, Value, Told, Payload, Hand, Rounds, word_share, vector_share, silence, sends_at, gate_sends, gate_value, round_sends, value_at, WordShare, VectorShare, kept_word, kept_vector, width}
 use Rattle.gate_tasks.specs.Party as party
 use Rattle.gate_tasks.specs.Payload.{word_in, vector_in}
 use Rattle.gate_tasks.specs.Stage.{value_of, own_with, hand_in, gate_of, out_to, outs_in, outs_of, formed_in, formed_before, carried_on, value_on, is_last, rounds_sent, senders, receivers, kind_at, operands_of, operands_at, heard_in, IsStage, Gives}
-use Rattle.gate_tasks.specs.ByValue.{kind_in, stand, share_in, value_from, formed_of, given_of, value_of_stage, hears_at, is_owned}
+use Rattle.gate_tasks.specs.ByValue.{kind_in, stand, word_at, vector_at, value_from, formed_of, given_of, value_of_stage, hears_at, is_owned}
 use Rattle.gate_tasks.specs.Sending.{out_by, outs_by, carried_with}
 use Rattle.gate_tasks.specs.declared.value.Value.{Value as ValueInMemory}
 use Rattle.gate_tasks.specs.declared.own.StageEnv.{StageEnv}
@@ -27,19 +27,19 @@ use Rattle.gate_tasks.proofs.Staged.{Agree, value_is, formed_is, given_is}
 
 -- ---- the one round of a gate
 
-pub record HasRounds (kind : Kind) (w : ℕ) : Type 0 where
+pub record HasRounds (kind : Kind) (sizes : Sizes) : Type 0 where
   pub one : Bool
-  pub count : length (messages_of kind w 0 0) ≡ cond one 1 0
-  pub none : one ≡ false → (from to : ℕ) → messages_of kind w from to ≡ []
+  pub count : length (messages_of kind sizes 0 0) ≡ cond one 1 0
+  pub none : one ≡ false → (from to : ℕ) → messages_of kind sizes from to ≡ []
 
-pub has_rounds : (kind : Kind) (w : ℕ) → HasRounds kind w
-has_rounds (InA party k) w = record { one = true; count = refl; none = λ e. cc }
-has_rounds (MulA x y) w = record { one = true; count = refl; none = λ e. cc }
-has_rounds (OutA x to) w = record { one = true; count = refl; none = λ e. cc }
-has_rounds (InB party k at) w = record { one = true; count = refl; none = λ e. cc }
-has_rounds (AndB x y) w = record { one = true; count = refl; none = λ e. cc }
-has_rounds (OutB x to) w = record { one = true; count = refl; none = λ e. cc }
-has_rounds _ w = record { one = false; count = refl; none = λ e from to. refl }
+pub has_rounds : (kind : Kind) (sizes : Sizes) → HasRounds kind sizes
+has_rounds (InA party k) sizes = record { one = true; count = refl; none = λ e. cc }
+has_rounds (MulA x y) sizes = record { one = true; count = refl; none = λ e. cc }
+has_rounds (OutA x to) sizes = record { one = true; count = refl; none = λ e. cc }
+has_rounds (InB party k at) sizes = record { one = true; count = refl; none = λ e. cc }
+has_rounds (AndB x y) sizes = record { one = true; count = refl; none = λ e. cc }
+has_rounds (OutB x to) sizes = record { one = true; count = refl; none = λ e. cc }
+has_rounds _ sizes = record { one = false; count = refl; none = λ e from to. refl }
 
 nothing_more : {X : Type 0} (xs : List X) → xs ++ [] ≡ xs
 nothing_more [] = refl
@@ -60,24 +60,24 @@ both true b e = (refl, e)
 both false b e = cc
 
 module _ (plan : Gates) (me g : ℕ) (gate : Gate) (here : slice_get plan.gates g ≡ Some gate) where
-  count_is : rounds plan g ≡ cond (has_rounds gate.kind gate.width).one 1 0
-  count_is = ap (λ (o : Option Gate). length (messages_at o 0 0)) here ∙ (has_rounds gate.kind gate.width).count
+  count_is : rounds plan g ≡ cond (has_rounds gate.kind (sizes_of plan gate)).one 1 0
+  count_is = ap (λ (o : Option Gate). length (messages_at plan o 0 0)) here ∙ (has_rounds gate.kind (sizes_of plan gate)).count
 
   -- no one receives where there is no round
-  pub no_receivers : (has_rounds gate.kind gate.width).one ≡ false → receivers plan me g 0 ≡ []
+  pub no_receivers : (has_rounds gate.kind (sizes_of plan gate)).one ≡ false → receivers plan me g 0 ≡ []
   no_receivers e =
       filter_same plan.parties (λ to. is_some (message plan me to g 0)) (λ to. false) (λ to h.
-      ap (λ (o : Option Gate). is_some (if are_two plan.parties me to then unwrap_or (slice_get (messages_at o me to) 0) None else None)) here
-      ∙ (ap (λ (ms : List (Option Message)). is_some (if are_two plan.parties me to then unwrap_or (slice_get ms 0) None else None)) ((has_rounds gate.kind gate.width).none e me to)
+      ap (λ (o : Option Gate). is_some (if are_two plan.parties me to then unwrap_or (slice_get (messages_at plan o me to) 0) None else None)) here
+      ∙ (ap (λ (ms : List (Option Message)). is_some (if are_two plan.parties me to then unwrap_or (slice_get ms 0) None else None)) ((has_rounds gate.kind (sizes_of plan gate)).none e me to)
       ∙ if_none (are_two plan.parties me to)))
       ∙ filter_none plan.parties
 
   -- what is of each round that is sent in the first stage, is of the first round
-  pub first_round : {X : Type 0} (f : ℕ → List X) → ((has_rounds gate.kind gate.width).one ≡ false → f 0 ≡ []) →
+  pub first_round : {X : Type 0} (f : ℕ → List X) → ((has_rounds gate.kind (sizes_of plan gate)).one ≡ false → f 0 ≡ []) →
       flat_map f (rounds_sent plan me g 0) ≡ f 0
-  first_round f none = by (has_rounds gate.kind gate.width).one refl
+  first_round f none = by (has_rounds gate.kind (sizes_of plan gate)).one refl
     where
-      by : (b : Bool) → (has_rounds gate.kind gate.width).one ≡ b → flat_map f (rounds_sent plan me g 0) ≡ f 0
+      by : (b : Bool) → (has_rounds gate.kind (sizes_of plan gate)).one ≡ b → flat_map f (rounds_sent plan me g 0) ≡ f 0
       by true e =
           ap (λ n. flat_map f (filter (λ round. length (filter (hears plan me g) (each round (λ r. r))) == 0) (each n (λ r. r))))
           (count_is ∙ ap (λ b. cond b 1 0) e)
@@ -89,9 +89,9 @@ module _ (plan : Gates) (me g : ℕ) (gate : Gate) (here : slice_get plan.gates 
 
   -- and nothing is sent later
   pub later_round : {X : Type 0} (f : ℕ → List X) → flat_map f (rounds_sent plan me g 1) ≡ []
-  later_round f = by (has_rounds gate.kind gate.width).one refl
+  later_round f = by (has_rounds gate.kind (sizes_of plan gate)).one refl
     where
-      by : (b : Bool) → (has_rounds gate.kind gate.width).one ≡ b → flat_map f (rounds_sent plan me g 1) ≡ []
+      by : (b : Bool) → (has_rounds gate.kind (sizes_of plan gate)).one ≡ b → flat_map f (rounds_sent plan me g 1) ≡ []
       by true e =
           ap (λ n. flat_map f (filter (λ round. length (filter (hears plan me g) (each round (λ r. r))) == 1) (each n (λ r. r))))
           (count_is ∙ ap (λ b. cond b 1 0) e)
@@ -142,20 +142,30 @@ module _ (env : StageEnv) (values : List Value) (got : Rounds) (wires : List Val
   agree : (heard : List Payload) (gate : Gate) → slice_get plan.gates env.gate ≡ Some gate →
       map value_of wires ≡ map (λ x. get_or values x (Told None)) (operands_at plan.gates env.gate) →
       Agree plan me env.gate own values got wires heard gate.kind
-  agree heard gate here are i x at =
-      at_place wires i
-      ∙ (ap (λ (vs : List Value). share_of (get_or vs i (Told None))) (are ∙ ap (λ o. map (λ y. get_or values y (Told None)) (operands_of o)) (kind_here plan env.gate gate here))
-      ∙ ap share_of (mapped (operands gate.kind) i at))
+  agree heard gate here are i x at = (
+    word_there wires i ∙ ap word_share same,
+    vector_there wires i ∙ ap vector_share same,
+  )
     where
-      at_place : (ws : List ValueInMemory) (i : ℕ) → share_in ws i ≡ share_of (get_or (map value_of ws) i (Told None))
-      at_place [] i = refl
-      at_place (w ∷ ws) zero = refl
-      at_place (w ∷ ws) (suc i) = at_place ws i
+      word_there : (ws : List ValueInMemory) (i : ℕ) → word_at ws i ≡ word_share (get_or (map value_of ws) i (Told None))
+      word_there [] i = refl
+      word_there (w ∷ ws) zero = refl
+      word_there (w ∷ ws) (suc i) = word_there ws i
+
+      vector_there : (ws : List ValueInMemory) (i : ℕ) → vector_at ws i ≡ vector_share (get_or (map value_of ws) i (Told None))
+      vector_there [] i = refl
+      vector_there (w ∷ ws) zero = refl
+      vector_there (w ∷ ws) (suc i) = vector_there ws i
 
       mapped : (xs : List ℕ) (i : ℕ) → slice_get xs i ≡ Some x → get_or (map (λ y. get_or values y (Told None)) xs) i (Told None) ≡ get_or values x (Told None)
       mapped [] i e = cc
       mapped (y ∷ ys) zero e = ap (λ k. get_or values k (Told None)) (some_is y x e)
       mapped (y ∷ ys) (suc i) e = mapped ys i e
+
+      same : get_or (map value_of wires) i (Told None) ≡ get_or values x (Told None)
+      same =
+          ap (λ (vs : List Value). get_or vs i (Told None)) (are ∙ ap (λ o. map (λ y. get_or values y (Told None)) (operands_of o)) (kind_here plan env.gate gate here))
+          ∙ mapped (operands gate.kind) i at
 
   -- what a receiver is sent
   sent_there : (gate : Gate) (to : ℕ) → slice_get plan.gates env.gate ≡ Some gate → is_some (message plan me to env.gate 0) ≡ true →

@@ -10,9 +10,9 @@ use Rattle.plan_gates.specs.Plan.{Gates, IsPlan}
 use Rattle.plan_gates.specs.Messages.{hears, rounds}
 use Rattle.share_types.specs.Wires.{includes}
 use Rattle.gate_tasks.specs.Payload.{word_bytes, word_in, vectors_bytes, vector_in}
-use Rattle.gate_tasks.specs.Party.{Own, Value, WordShare, VectorShare, Told, Payload, Hand, Rounds, hand, share, width, triple, bits_of, given_word, given_vector, kept_word, kept_vector, closed_vector, opened_word, opened_vector, left_word, right_word, left_vector, right_vector, gate_value, gate_sends, silence}
+use Rattle.gate_tasks.specs.Party.{Own, Value, WordShare, VectorShare, Told, Payload, Hand, Rounds, hand, word, vector, width, triple, bits_of, given_word, given_vector, kept_word, kept_vector, closed_vector, opened_word, opened_vector, left_word, right_word, left_vector, right_vector, gate_value, gate_sends, silence}
 use Rattle.gate_tasks.specs.Stage.{senders}
-use Rattle.gate_tasks.specs.ByValue.{share_in, opened_words, opened_vectors, formed, given_out, value_from, hears_at, is_owned}
+use Rattle.gate_tasks.specs.ByValue.{word_at, vector_at, opened_words, opened_vectors, formed, given_out, value_from, hears_at, is_owned}
 use Rattle.gate_tasks.specs.declared.value.Value.{Value as ValueInMemory}
 use Rattle.gate_tasks.proofs.Grown.{map_map}
 use Rattle.gate_tasks.proofs.Sums.{one_apart}
@@ -76,7 +76,7 @@ module _ (plan : Gates) (me g : ℕ) (own : Own) (before : List Value) (got : Ro
 
   -- the values of the operands are those of the gates before
   abbrev pub Agree : Kind → Type 0
-  Agree kind = (i x : ℕ) → slice_get (operands kind) i ≡ Some x → share_in wires i ≡ share h x
+  Agree kind = (i x : ℕ) → slice_get (operands kind) i ≡ Some x → (word_at wires i ≡ word h x) × (vector_at wires i ≡ vector h x)
 
   module _ (valid : IsPlan plan) (gate : Gate) (here : slice_get plan.gates g ≡ Some gate) (inside : me < plan.parties) where
     -- what a party hears, where it hears something
@@ -106,29 +106,29 @@ module _ (plan : Gates) (me g : ℕ) (own : Own) (before : List Value) (got : Ro
             ∙ (ap (λ (p : Payload). WordShare (word_in p 0)) (owner_heard (InA party k) party of (λ q. refl) refl e (hears (ap not e)))
             ∙ sym (ap (λ b. WordShare (cond b (kept_word h k) (word_in (got 0 party) 0))) e))
     value_is (ConstA c) of agree hears = refl
-    value_is (AddA x y) of agree hears = ap₂ (λ a b. WordShare (word_sum a b)) (agree 0 x refl) (agree 1 y refl)
-    value_is (SubA x y) of agree hears = ap₂ (λ a b. WordShare (word_difference a b)) (agree 0 x refl) (agree 1 y refl)
-    value_is (AddConstA x c) of agree hears = ap (λ a. WordShare (word_sum a (part_of_public me c))) (agree 0 x refl)
-    value_is (MulConstA x c) of agree hears = ap (λ a. WordShare (word_product a c)) (agree 0 x refl)
+    value_is (AddA x y) of agree hears = ap₂ (λ a b. WordShare (word_sum a b)) (agree 0 x refl).0 (agree 1 y refl).0
+    value_is (SubA x y) of agree hears = ap₂ (λ a b. WordShare (word_difference a b)) (agree 0 x refl).0 (agree 1 y refl).0
+    value_is (AddConstA x c) of agree hears = ap (λ a. WordShare (word_sum a (part_of_public me c))) (agree 0 x refl).0
+    value_is (MulConstA x c) of agree hears = ap (λ a. WordShare (word_product a c)) (agree 0 x refl).0
     value_is (MulA x y) of agree hears =
         let are = all_heard (MulA x y) of (λ q. refl) (hears refl) in
         ap₂ (λ d e. WordShare (arithmetic.closed_share me (triple h) d e))
-        (ap (λ a. opened_words (arithmetic.opened_left a (triple h)) 0 heard) (agree 0 x refl) ∙ words_opened (left_word h x) 0 inside are)
-        (ap (λ a. opened_words (arithmetic.opened_right a (triple h)) 1 heard) (agree 1 y refl) ∙ words_opened (right_word h y) 1 inside are)
+        (ap (λ a. opened_words (arithmetic.opened_left a (triple h)) 0 heard) (agree 0 x refl).0 ∙ words_opened (left_word h x) 0 inside are)
+        (ap (λ a. opened_words (arithmetic.opened_right a (triple h)) 1 heard) (agree 1 y refl).0 ∙ words_opened (right_word h y) 1 inside are)
     value_is (OutA x to) of agree hears = by (includes to me) refl
       where
         by : (b : Bool) → includes to me ≡ b → value_from (OutA x to) h0 wires heard ≡ gate_value (OutA x to) h got
         by true e =
-            ap (λ b. Told (cond b (Some (opened_words (share_in wires 0) 0 heard)) None)) e
-            ∙ (ap (λ n. Told (Some n)) (ap (λ a. opened_words a 0 heard) (agree 0 x refl)
-            ∙ words_opened (share h x) 0 inside (hears e ∙ ap (map (got 0)) (senders_told e)))
-            ∙ sym (ap (λ b. Told (cond b (Some (opened_word h (share h x) (got 0) 0)) None)) e))
+            ap (λ b. Told (cond b (Some (opened_words (word_at wires 0) 0 heard)) None)) e
+            ∙ (ap (λ n. Told (Some n)) (ap (λ a. opened_words a 0 heard) (agree 0 x refl).0
+            ∙ words_opened (word h x) 0 inside (hears e ∙ ap (map (got 0)) (senders_told e)))
+            ∙ sym (ap (λ b. Told (cond b (Some (opened_word h (word h x) (got 0) 0)) None)) e))
           where
             senders_told : includes to me ≡ true → senders plan me g 0 ≡ others plan.parties me
             senders_told e = senders_all plan me g gate valid here inside (OutA x to) of (λ q. e)
         by false e =
-            ap (λ b. Told (cond b (Some (opened_words (share_in wires 0) 0 heard)) None)) e
-            ∙ sym (ap (λ b. Told (cond b (Some (opened_word h (share h x) (got 0) 0)) None)) e)
+            ap (λ b. Told (cond b (Some (opened_words (word_at wires 0) 0 heard)) None)) e
+            ∙ sym (ap (λ b. Told (cond b (Some (opened_word h (word h x) (got 0) 0)) None)) e)
     value_is (InB party k at) of agree hears = by (party == me) refl
       where
         by : (b : Bool) → (party == me) ≡ b → value_from (InB party k at) h0 wires heard ≡ gate_value (InB party k at) h got
@@ -140,43 +140,43 @@ module _ (plan : Gates) (me g : ℕ) (own : Own) (before : List Value) (got : Ro
             ∙ (ap (λ (p : Payload). VectorShare (vector_in (width h) p 0)) (owner_heard (InB party k at) party of (λ q. refl) refl e (hears (ap not e)))
             ∙ sym (ap (λ b. VectorShare (cond b (kept_vector h k at) (vector_in (width h) (got 0 party) 0))) e))
     value_is (ConstB c) of agree hears = refl
-    value_is (XorB x y) of agree hears = ap₂ (λ a b. VectorShare (bit_xor a b)) (agree 0 x refl) (agree 1 y refl)
-    value_is (XorConstB x c) of agree hears = ap (λ a. VectorShare (bit_xor a (part_of_public me c))) (agree 0 x refl)
-    value_is (SliceB x at) of agree hears = ap (λ a. VectorShare (a / 2 ^ at % 2 ^ width h)) (agree 0 x refl)
-    value_is (JoinB x y) of agree hears = ap₂ (λ a b. VectorShare (a + 2 ^ width_at plan.gates x * b)) (agree 0 x refl) (agree 1 y refl)
+    value_is (XorB x y) of agree hears = ap₂ (λ a b. VectorShare (bit_xor a b)) (agree 0 x refl).1 (agree 1 y refl).1
+    value_is (XorConstB x c) of agree hears = ap (λ a. VectorShare (bit_xor a (part_of_public me c))) (agree 0 x refl).1
+    value_is (SliceB x at) of agree hears = ap (λ a. VectorShare (a / 2 ^ at % 2 ^ width h)) (agree 0 x refl).1
+    value_is (JoinB x y) of agree hears = ap₂ (λ a b. VectorShare (a + 2 ^ width_at plan.gates x * b)) (agree 0 x refl).1 (agree 1 y refl).1
     value_is (AndB x y) of agree hears =
         let are = all_heard (AndB x y) of (λ q. refl) (hears refl) in
         ap₂ (λ d e. VectorShare (closed_vector h d e))
-        (ap (λ a. opened_vectors (width h) (bit_xor a (bits_of h 0)) 0 heard) (agree 0 x refl) ∙ vectors_opened (left_vector h x) 0 inside are)
-        (ap (λ a. opened_vectors (width h) (bit_xor a (bits_of h 1)) 1 heard) (agree 1 y refl) ∙ vectors_opened (right_vector h y) 1 inside are)
+        (ap (λ a. opened_vectors (width h) (bit_xor a (bits_of h 0)) 0 heard) (agree 0 x refl).1 ∙ vectors_opened (left_vector h x) 0 inside are)
+        (ap (λ a. opened_vectors (width h) (bit_xor a (bits_of h 1)) 1 heard) (agree 1 y refl).1 ∙ vectors_opened (right_vector h y) 1 inside are)
     value_is (OutB x to) of agree hears = by (includes to me) refl
       where
         by : (b : Bool) → includes to me ≡ b → value_from (OutB x to) h0 wires heard ≡ gate_value (OutB x to) h got
         by true e =
-            ap (λ b. Told (cond b (Some (opened_vectors (width h) (share_in wires 0) 0 heard)) None)) e
-            ∙ (ap (λ n. Told (Some n)) (ap (λ a. opened_vectors (width h) a 0 heard) (agree 0 x refl)
-            ∙ vectors_opened (share h x) 0 inside (hears e ∙ ap (map (got 0)) (senders_told e)))
-            ∙ sym (ap (λ b. Told (cond b (Some (opened_vector h (share h x) (got 0) 0)) None)) e))
+            ap (λ b. Told (cond b (Some (opened_vectors (width h) (vector_at wires 0) 0 heard)) None)) e
+            ∙ (ap (λ n. Told (Some n)) (ap (λ a. opened_vectors (width h) a 0 heard) (agree 0 x refl).1
+            ∙ vectors_opened (vector h x) 0 inside (hears e ∙ ap (map (got 0)) (senders_told e)))
+            ∙ sym (ap (λ b. Told (cond b (Some (opened_vector h (vector h x) (got 0) 0)) None)) e))
           where
             senders_told : includes to me ≡ true → senders plan me g 0 ≡ others plan.parties me
             senders_told e = senders_all plan me g gate valid here inside (OutB x to) of (λ q. e)
         by false e =
-            ap (λ b. Told (cond b (Some (opened_vectors (width h) (share_in wires 0) 0 heard)) None)) e
-            ∙ sym (ap (λ b. Told (cond b (Some (opened_vector h (share h x) (got 0) 0)) None)) e)
+            ap (λ b. Told (cond b (Some (opened_vectors (width h) (vector_at wires 0) 0 heard)) None)) e
+            ∙ sym (ap (λ b. Told (cond b (Some (opened_vector h (vector h x) (got 0) 0)) None)) e)
 
   -- what is sent to those to whom something is sent
   pub formed_is : (kind : Kind) (rounds : Rounds) (to : ℕ) → Agree kind → is_owned (Some kind) me ≡ false → sends kind me to ≡ true →
       formed kind h0 wires ≡ get_or (gate_sends kind h rounds) 0 silence to
   formed_is (InA party k) rounds to agree other e = let owned = turned party me ∙ e in let contrary = sym other ∙ owned in cc
   formed_is (MulA x y) rounds to agree other e =
-      ap₂ (λ a b. word_bytes (arithmetic.opened_left a (triple h) ∷ arithmetic.opened_right b (triple h) ∷ [])) (agree 0 x refl) (agree 1 y refl)
+      ap₂ (λ a b. word_bytes (arithmetic.opened_left a (triple h) ∷ arithmetic.opened_right b (triple h) ∷ [])) (agree 0 x refl).0 (agree 1 y refl).0
   formed_is (OutA x receiver) rounds to agree other e =
-      ap (λ a. word_bytes (a ∷ [])) (agree 0 x refl) ∙ sym (ap (λ b. cond b (word_bytes (share h x ∷ [])) []) e)
+      ap (λ a. word_bytes (a ∷ [])) (agree 0 x refl).0 ∙ sym (ap (λ b. cond b (word_bytes (word h x ∷ [])) []) e)
   formed_is (InB party k at) rounds to agree other e = let owned = turned party me ∙ e in let contrary = sym other ∙ owned in cc
   formed_is (AndB x y) rounds to agree other e =
-      ap₂ (λ a b. vectors_bytes (width h) (bit_xor a (bits_of h 0) ∷ bit_xor b (bits_of h 1) ∷ [])) (agree 0 x refl) (agree 1 y refl)
+      ap₂ (λ a b. vectors_bytes (width h) (bit_xor a (bits_of h 0) ∷ bit_xor b (bits_of h 1) ∷ [])) (agree 0 x refl).1 (agree 1 y refl).1
   formed_is (OutB x receiver) rounds to agree other e =
-      ap (λ a. vectors_bytes (width h) (a ∷ [])) (agree 0 x refl) ∙ sym (ap (λ b. cond b (vectors_bytes (width h) (share h x ∷ [])) []) e)
+      ap (λ a. vectors_bytes (width h) (a ∷ [])) (agree 0 x refl).1 ∙ sym (ap (λ b. cond b (vectors_bytes (width h) (vector h x ∷ [])) []) e)
   formed_is _ rounds to agree other e = cc
 
   pub given_is : (kind : Kind) (rounds : Rounds) (to : ℕ) → is_owned (Some kind) me ≡ true →

@@ -1,20 +1,23 @@
 -- What a stage computes, from the values of its operands and the payloads for which it waits.
-use Rattle.std.specs.Prelude.{ℕ, ◌≡◌, IfSome, Bool, true, false, not, ◌+◌, ◌*◌, ◌/◌, ◌%◌, ◌^◌, ◌==◌, List, [], ◌∷◌, map, get_or, Option, Some, None, if◌then◌else◌, bit_xor}
+use Rattle.std.specs.Prelude.{ℕ, ◌≡◌, IfSome, Bool, true, false, not, ◌+◌, ◌*◌, ◌/◌, ◌%◌, ◌^◌, ◌==◌, List, [], ◌∷◌, map, get_or, slice_get, Option, Some, None, option_map, if◌then◌else◌, bit_xor}
 use Rattle.share_types.specs.Sums.{word_sum, word_difference, word_product, part_of_public, total, xor_total}
 use Rattle.arithmetic_gmw.specs.Shares as arithmetic
-use Rattle.plan_gates.specs.Gate.{Kind, Given, InA, ConstA, AddA, SubA, AddConstA, MulConstA, MulA, OutA, InB, ConstB, XorB, XorConstB, SliceB, JoinB, AndB, OutB, Word, Vector, takes, gives, width_at}
+use Rattle.plan_gates.specs.Gate.{Kind, Given, InA, ConstA, AddA, SubA, AddConstA, MulConstA, MulA, OutA, InB, ConstB, XorB, XorConstB, SliceB, JoinB, AndB, OutB, Word, Vector, uses, gives, width_at}
 use Rattle.plan_gates.specs.Gate as plan
 use Rattle.share_types.specs.Wires.{includes}
 use Rattle.gate_tasks.specs.Payload.{word_bytes, word_in, vectors_bytes, vector_in}
-use Rattle.gate_tasks.specs.Party.{Value, WordShare, VectorShare, Told, Payload, Hand, share_of, width, triple, bits_of, given_word, given_vector, kept_word, kept_vector, closed_vector}
+use Rattle.gate_tasks.specs.Party.{Value, WordShare, VectorShare, Told, Payload, Hand, word_share, vector_share, width, triple, bits_of, given_word, given_vector, kept_word, kept_vector, closed_vector}
 use Rattle.gate_tasks.specs.Stage.{value_of, kind_at, hand_in}
 use Rattle.gate_tasks.specs.declared.own.StageEnv.{StageEnv}
 use Rattle.gate_tasks.specs.declared.value.Value.{Value as ValueInMemory}
 use Rattle.gate_tasks.specs.declared.value.Value.TheVariants as code
 
--- the party's share of the operand at a place
-abbrev pub share_in : List ValueInMemory → ℕ → ℕ
-share_in wires i = share_of (value_of (get_or wires i (code.Told None)))
+-- the party's share of the operand at a place, which is a word or a vector
+abbrev pub word_at : List ValueInMemory → ℕ → ℕ
+word_at wires i = word_share (value_of (get_or wires i (code.Told None)))
+
+abbrev pub vector_at : List ValueInMemory → ℕ → ℕ
+vector_at wires i = vector_share (value_of (get_or wires i (code.Told None)))
 
 -- an opened word, and an opened vector: what the own part and number `at` of each payload recombine to
 abbrev pub opened_words : ℕ → ℕ → List Payload → ℕ
@@ -32,19 +35,19 @@ heard_at heard i = get_or heard i []
 abbrev pub opening : Hand → List ValueInMemory → Payload
 opening h wires =
     word_bytes
-    (arithmetic.opened_left (share_in wires 0) (triple h) ∷ arithmetic.opened_right (share_in wires 1) (triple h) ∷ [])
+    (arithmetic.opened_left (word_at wires 0) (triple h) ∷ arithmetic.opened_right (word_at wires 1) (triple h) ∷ [])
 
 abbrev pub opening_of_bits : Hand → List ValueInMemory → Payload
 opening_of_bits h wires =
     vectors_bytes (width h)
-    (bit_xor (share_in wires 0) (bits_of h 0) ∷ bit_xor (share_in wires 1) (bits_of h 1) ∷ [])
+    (bit_xor (vector_at wires 0) (bits_of h 0) ∷ bit_xor (vector_at wires 1) (bits_of h 1) ∷ [])
 
 -- the payload that a party sends to all receivers, where the gate is no input
 abbrev pub formed : Kind → Hand → List ValueInMemory → Payload
 formed (MulA x y) h wires = opening h wires
-formed (OutA x receiver) h wires = word_bytes (share_in wires 0 ∷ [])
+formed (OutA x receiver) h wires = word_bytes (word_at wires 0 ∷ [])
 formed (AndB x y) h wires = opening_of_bits h wires
-formed (OutB x receiver) h wires = vectors_bytes (width h) (share_in wires 0 ∷ [])
+formed (OutB x receiver) h wires = vectors_bytes (width h) (vector_at wires 0 ∷ [])
 formed _ h wires = []
 
 -- the payload of an input's owner to a party
@@ -58,36 +61,36 @@ given_out _ h to = []
 abbrev pub product_of : Hand → List ValueInMemory → List Payload → ℕ
 product_of h wires heard =
     arithmetic.closed_share h.me (triple h)
-    (opened_words (arithmetic.opened_left (share_in wires 0) (triple h)) 0 heard)
-    (opened_words (arithmetic.opened_right (share_in wires 1) (triple h)) 1 heard)
+    (opened_words (arithmetic.opened_left (word_at wires 0) (triple h)) 0 heard)
+    (opened_words (arithmetic.opened_right (word_at wires 1) (triple h)) 1 heard)
 
 abbrev pub conjunction_of : Hand → List ValueInMemory → List Payload → ℕ
 conjunction_of h wires heard =
     closed_vector h
-    (opened_vectors (width h) (bit_xor (share_in wires 0) (bits_of h 0)) 0 heard)
-    (opened_vectors (width h) (bit_xor (share_in wires 1) (bits_of h 1)) 1 heard)
+    (opened_vectors (width h) (bit_xor (vector_at wires 0) (bits_of h 0)) 0 heard)
+    (opened_vectors (width h) (bit_xor (vector_at wires 1) (bits_of h 1)) 1 heard)
 
 abbrev pub value_from : Kind → Hand → List ValueInMemory → List Payload → Value
 value_from (InA party k) h wires heard = WordShare (if party == h.me then kept_word h k else word_in (heard_at heard 0) 0)
 value_from (ConstA c) h wires heard = WordShare (part_of_public h.me c)
-value_from (AddA x y) h wires heard = WordShare (word_sum (share_in wires 0) (share_in wires 1))
-value_from (SubA x y) h wires heard = WordShare (word_difference (share_in wires 0) (share_in wires 1))
-value_from (AddConstA x c) h wires heard = WordShare (word_sum (share_in wires 0) (part_of_public h.me c))
-value_from (MulConstA x c) h wires heard = WordShare (word_product (share_in wires 0) c)
+value_from (AddA x y) h wires heard = WordShare (word_sum (word_at wires 0) (word_at wires 1))
+value_from (SubA x y) h wires heard = WordShare (word_difference (word_at wires 0) (word_at wires 1))
+value_from (AddConstA x c) h wires heard = WordShare (word_sum (word_at wires 0) (part_of_public h.me c))
+value_from (MulConstA x c) h wires heard = WordShare (word_product (word_at wires 0) c)
 value_from (MulA x y) h wires heard = WordShare (product_of h wires heard)
 value_from (OutA x to) h wires heard =
-    Told (if includes to h.me then Some (opened_words (share_in wires 0) 0 heard) else None)
+    Told (if includes to h.me then Some (opened_words (word_at wires 0) 0 heard) else None)
 value_from (InB party k at) h wires heard =
     VectorShare (if party == h.me then kept_vector h k at else vector_in (width h) (heard_at heard 0) 0)
 value_from (ConstB c) h wires heard = VectorShare (part_of_public h.me c)
-value_from (XorB x y) h wires heard = VectorShare (bit_xor (share_in wires 0) (share_in wires 1))
-value_from (XorConstB x c) h wires heard = VectorShare (bit_xor (share_in wires 0) (part_of_public h.me c))
-value_from (SliceB x at) h wires heard = VectorShare (share_in wires 0 / 2 ^ at % 2 ^ width h)
+value_from (XorB x y) h wires heard = VectorShare (bit_xor (vector_at wires 0) (vector_at wires 1))
+value_from (XorConstB x c) h wires heard = VectorShare (bit_xor (vector_at wires 0) (part_of_public h.me c))
+value_from (SliceB x at) h wires heard = VectorShare (vector_at wires 0 / 2 ^ at % 2 ^ width h)
 value_from (JoinB x y) h wires heard =
-    VectorShare (share_in wires 0 + 2 ^ width_at h.plan.gates x * share_in wires 1)
+    VectorShare (vector_at wires 0 + 2 ^ width_at h.plan.gates x * vector_at wires 1)
 value_from (AndB x y) h wires heard = VectorShare (conjunction_of h wires heard)
 value_from (OutB x to) h wires heard =
-    Told (if includes to h.me then Some (opened_vectors (width h) (share_in wires 0) 0 heard) else None)
+    Told (if includes to h.me then Some (opened_vectors (width h) (vector_at wires 0) 0 heard) else None)
 
 -- ---- the gate at which a party stands, if there is one
 
@@ -110,10 +113,10 @@ abbrev pub value_of_stage : Option Kind → Hand → List ValueInMemory → List
 value_of_stage None h wires heard = Told None
 value_of_stage (Some kind) h wires heard = value_from kind h wires heard
 
--- what its operands are
-abbrev pub takes_of : Option Kind → Option Given
-takes_of None = None
-takes_of (Some kind) = Some (takes kind)
+-- what its operand at a place is, if it has one there
+abbrev pub taken_at : Option Kind → ℕ → Option Given
+taken_at None at = None
+taken_at (Some kind) at = option_map (λ used. used.given) (slice_get (uses kind) at)
 
 -- what it gives
 abbrev pub gives_of : Option Kind → Option Given

@@ -11,7 +11,7 @@ use Rattle.plan_gates.specs.Plan.{Gates}
 use Rattle.plan_gates.specs.Needs.{all_needs}
 use Rattle.share_types.specs.Needs.{sum_of_needs}
 use Rattle.plan_gates.specs.Messages.{tells}
-use Rattle.gate_tasks.specs.Party.{Own, Value, Told, share_of}
+use Rattle.gate_tasks.specs.Party.{Own, Value, Told, word_share, vector_share}
 
 -- a party that brings nothing
 abbrev pub no_part : Part
@@ -55,9 +55,9 @@ AreInputs plan owns inputs =
 -- the values of a gate of so many parties recombine to a number: shares of a word sum to it modulo 2^64, shares of a
 -- vector of the gate's width XOR to it, and who is told knows it
 abbrev pub RecombineBy : Given → Gate → ℕ → (ℕ → Value) → ℕ → Type 0
-RecombineBy Word gate n values x = sum_to n (λ p. share_of (values p)) % 2 ^ 64 ≡ x % 2 ^ 64
+RecombineBy Word gate n values x = sum_to n (λ p. word_share (values p)) % 2 ^ 64 ≡ x % 2 ^ 64
 RecombineBy Vector gate n values x =
-    (xor_to n (λ p. share_of (values p)) ≡ x) × ((p : ℕ) → p < n → share_of (values p) < 2 ^ gate.width)
+    (xor_to n (λ p. vector_share (values p)) ≡ x) × ((p : ℕ) → p < n → vector_share (values p) < 2 ^ gate.width)
 RecombineBy plan.Told gate n values x =
     (p : ℕ) → p < n → values p ≡ Told (if tells p gate then Some x else None)
 

@@ -4,7 +4,7 @@ use Rattle.share_types.specs.declared.needs.Needs.{Needs}
 use Rattle.message_demux.specs.Slots.{has_high_bits}
 use Rattle.plan_gates.specs.Gate.{Gate}
 use Rattle.plan_gates.specs.Plan.{Gates, IsPlan}
-use Rattle.plan_gates.specs.Plain.{plain_before}
+use Rattle.plan_gates.specs.Plain.{Outside, plain_before}
 use Rattle.plan_gates.specs.declared.message.Message.{Message}
 use Rattle.plan_gates.specs.Messages.{message}
 use Rattle.gate_tasks.specs.Payload.{word_bytes, word_in, vectors_bytes, vector_in}
@@ -29,10 +29,10 @@ OneJointRun =
 -- computes there in plain
 abbrev pub EveryGateRecombines : Type 0
 EveryGateRecombines =
-    (plan : Gates) (owns : List Own) (bases : Needs) (session : ℕ) (inputs : List ℕ) (table : Payloads) →
-    IsPlan plan → AreHonest plan owns bases session → AreInputs plan owns inputs → IsJoint plan owns table →
+    (plan : Gates) (owns : List Own) (bases : Needs) (session : ℕ) (outside : Outside) (table : Payloads) →
+    IsPlan plan → AreHonest plan owns bases session → AreInputs plan owns outside.inputs → IsJoint plan owns table →
     (g : ℕ) (gate : Gate) (x : ℕ) → slice_get plan.gates g ≡ Some gate →
-    slice_get (plain_before plan.gates inputs (length plan.gates)) g ≡ Some x →
+    slice_get (plain_before plan.gates outside (length plan.gates)) g ≡ Some x →
     Recombine gate plan.parties (λ p. party_value plan p (own_at owns p) (column table p) g) x
 
 -- the length of a message, and 0 of none

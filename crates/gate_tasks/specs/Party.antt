@@ -56,15 +56,21 @@ pub record Hand : Type 0 where
   pub gate : ℕ
   pub wires : List Value
 
--- the share in a value
-abbrev pub share_of : Value → ℕ
-share_of (WordShare w) = w
-share_of (VectorShare v) = v
-share_of (Told n) = 0
+-- the share of a word, and that of a vector
+abbrev pub word_share : Value → ℕ
+word_share (WordShare w) = w
+word_share _ = 0
 
--- the party's share of an operand
-abbrev pub share : Hand → ℕ → ℕ
-share h x = share_of (get_or h.wires x (Told None))
+abbrev pub vector_share : Value → ℕ
+vector_share (VectorShare v) = v
+vector_share _ = 0
+
+-- the party's share of an operand that is a word, and of one that is a vector
+abbrev pub word : Hand → ℕ → ℕ
+word h x = word_share (get_or h.wires x (Told None))
+
+abbrev pub vector : Hand → ℕ → ℕ
+vector h x = vector_share (get_or h.wires x (Told None))
 
 -- how many parties there are, and how wide the value of the gate is
 abbrev pub parties : Hand → ℕ
@@ -79,7 +85,7 @@ input h k = number (get_or h.own.inputs k [])
 
 -- the places of the gate's first records in the dealer's part
 abbrev pub first : Hand → Needs
-first h = sum_of_needs h.own.bases (offset h.plan.gates h.gate)
+first h = sum_of_needs h.own.bases (offset h.plan h.gate)
 
 -- an opened word, and an opened vector: what all parties' parts recombine to, the own one and number i of what was heard
 abbrev pub opened_word : Hand → ℕ → Heard → ℕ → ℕ
@@ -112,10 +118,10 @@ abbrev pub triple : Hand → MultTriple
 triple h = get_or h.own.part.mult (first h).mult no_triple
 
 abbrev pub left_word : Hand → ℕ → ℕ
-left_word h x = arithmetic.opened_left (share h x) (triple h)
+left_word h x = arithmetic.opened_left (word h x) (triple h)
 
 abbrev pub right_word : Hand → ℕ → ℕ
-right_word h y = arithmetic.opened_right (share h y) (triple h)
+right_word h y = arithmetic.opened_right (word h y) (triple h)
 
 abbrev pub product : Hand → ℕ → ℕ → Heard → ℕ
 product h x y heard =
@@ -128,10 +134,10 @@ abbrev pub bits_of : Hand → ℕ → ℕ
 bits_of h bit = vector_of bit (take (width h) (drop (first h).bit h.own.part.bits))
 
 abbrev pub left_vector : Hand → ℕ → ℕ
-left_vector h x = bit_xor (share h x) (bits_of h 0)
+left_vector h x = bit_xor (vector h x) (bits_of h 0)
 
 abbrev pub right_vector : Hand → ℕ → ℕ
-right_vector h y = bit_xor (share h y) (bits_of h 1)
+right_vector h y = bit_xor (vector h y) (bits_of h 1)
 
 abbrev pub closed_vector : Hand → ℕ → ℕ → ℕ
 closed_vector h d e =
@@ -149,32 +155,32 @@ conjunction h x y heard =
 abbrev pub gate_value : Kind → Hand → Rounds → Value
 gate_value (InA party k) h got = WordShare (if party == h.me then kept_word h k else word_in (got 0 party) 0)
 gate_value (ConstA c) h got = WordShare (part_of_public h.me c)
-gate_value (AddA x y) h got = WordShare (word_sum (share h x) (share h y))
-gate_value (SubA x y) h got = WordShare (word_difference (share h x) (share h y))
-gate_value (AddConstA x c) h got = WordShare (word_sum (share h x) (part_of_public h.me c))
-gate_value (MulConstA x c) h got = WordShare (word_product (share h x) c)
+gate_value (AddA x y) h got = WordShare (word_sum (word h x) (word h y))
+gate_value (SubA x y) h got = WordShare (word_difference (word h x) (word h y))
+gate_value (AddConstA x c) h got = WordShare (word_sum (word h x) (part_of_public h.me c))
+gate_value (MulConstA x c) h got = WordShare (word_product (word h x) c)
 gate_value (MulA x y) h got = WordShare (product h x y (got 0))
-gate_value (OutA x to) h got = Told (if includes to h.me then Some (opened_word h (share h x) (got 0) 0) else None)
+gate_value (OutA x to) h got = Told (if includes to h.me then Some (opened_word h (word h x) (got 0) 0) else None)
 gate_value (InB party k at) h got =
     VectorShare (if party == h.me then kept_vector h k at else vector_in (width h) (got 0 party) 0)
 gate_value (ConstB c) h got = VectorShare (part_of_public h.me c)
-gate_value (XorB x y) h got = VectorShare (bit_xor (share h x) (share h y))
-gate_value (XorConstB x c) h got = VectorShare (bit_xor (share h x) (part_of_public h.me c))
-gate_value (SliceB x at) h got = VectorShare (share h x / 2 ^ at % 2 ^ width h)
-gate_value (JoinB x y) h got = VectorShare (share h x + 2 ^ width_at h.plan.gates x * share h y)
+gate_value (XorB x y) h got = VectorShare (bit_xor (vector h x) (vector h y))
+gate_value (XorConstB x c) h got = VectorShare (bit_xor (vector h x) (part_of_public h.me c))
+gate_value (SliceB x at) h got = VectorShare (vector h x / 2 ^ at % 2 ^ width h)
+gate_value (JoinB x y) h got = VectorShare (vector h x + 2 ^ width_at h.plan.gates x * vector h y)
 gate_value (AndB x y) h got = VectorShare (conjunction h x y (got 0))
-gate_value (OutB x to) h got = Told (if includes to h.me then Some (opened_vector h (share h x) (got 0) 0) else None)
+gate_value (OutB x to) h got = Told (if includes to h.me then Some (opened_vector h (vector h x) (got 0) 0) else None)
 
 -- what the party has to send at a gate: for each round in order, the payload by receiver
 abbrev pub gate_sends : Kind → Hand → Rounds → List Heard
 gate_sends (InA party k) h got = (λ to. if party == h.me then word_bytes (given_word h to ∷ []) else []) ∷ []
 gate_sends (MulA x y) h got = (λ to. word_bytes (left_word h x ∷ right_word h y ∷ [])) ∷ []
-gate_sends (OutA x receiver) h got = (λ to. if includes receiver to then word_bytes (share h x ∷ []) else []) ∷ []
+gate_sends (OutA x receiver) h got = (λ to. if includes receiver to then word_bytes (word h x ∷ []) else []) ∷ []
 gate_sends (InB party k at) h got =
     (λ to. if party == h.me then vectors_bytes (width h) (given_vector h to ∷ []) else []) ∷ []
 gate_sends (AndB x y) h got = (λ to. vectors_bytes (width h) (left_vector h x ∷ right_vector h y ∷ [])) ∷ []
 gate_sends (OutB x receiver) h got =
-    (λ to. if includes receiver to then vectors_bytes (width h) (share h x ∷ []) else []) ∷ []
+    (λ to. if includes receiver to then vectors_bytes (width h) (vector h x ∷ []) else []) ∷ []
 gate_sends _ h got = []
 
 -- ---- a whole plan

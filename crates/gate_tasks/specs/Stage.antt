@@ -167,8 +167,8 @@ pub record Serves (plan : Gates) (own : OwnInMemory) (part : Part) (g : ℕ) : T
   pub parties : part.parties ≡ plan.parties
   pub session : own.session < session_count
   pub input : (gate : Gate) → slice_get plan.gates g ≡ Some gate → HasInput gate own.me.0 own.inputs
-  pub records : (kind : stock.Kind) → 0 < count_of (needs_at (slice_get plan.gates g)) kind →
-      count_of (sum_of_needs (sum_of_needs own.bases (offset plan.gates g)) (needs_at (slice_get plan.gates g))) kind
+  pub records : (kind : stock.Kind) → 0 < count_of (needs_at plan g) kind →
+      count_of (sum_of_needs (sum_of_needs own.bases (offset plan g)) (needs_at plan g)) kind
       ≤ count_of (counts_of part) kind
 
 -- the values of the operands, in order, each of the kind and width that its gate gives

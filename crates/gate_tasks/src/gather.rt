@@ -3,7 +3,6 @@
 ghost use Rattle.std.specs.Prelude.{◌≡◌, ◌<◌, ◌++◌, ℕ, length, Some, IfOk, IfSome, OnOk};
 ghost use Rattle.message_demux.specs.Fit.{Fits};
 ghost use Rattle.std.specs.FinMap as map;
-ghost use Rattle.plan_gates.specs.Gate.{kind_of, operands};
 ghost use Rattle.plan_gates.specs.Messages.{awaits};
 ghost use Rattle.gate_tasks.specs.Stage.{operands_at};
 ghost use Rattle.gate_tasks.specs.Task.{KeptFit, option_list, held_values, payloads_at, gate_lacking, slot_lacking, lacking};
@@ -14,7 +13,6 @@ use crate::value::Value;
 use crate::wires::Wires;
 use message_demux::Slot;
 use mot_base::{NoMemory, Party, Payload};
-use plan_gates::GateKind;
 use std::alloc::Global;
 
 /// The first thing that a stage lacks.
@@ -30,34 +28,15 @@ pub(crate) fn lacking(env: &Env, gate: u32, stage: u8) -> Option<Need>
     Some(Need::Slot(slot))
 }
 
-/// The operands of a gate, of which there are at most two.
-fn operands(kind: GateKind) -> (Option<u32>, Option<u32>)
-    ensures { option_list result.0 ++ option_list result.1 ≡ operands (kind_of kind) }
-{
-    match kind {
-        GateKind::AddA { x, y }
-        | GateKind::SubA { x, y }
-        | GateKind::MulA { x, y }
-        | GateKind::XorB { x, y }
-        | GateKind::JoinB { x, y }
-        | GateKind::AndB { x, y } => (Some(x), Some(y)),
-        GateKind::AddConstA { x, .. }
-        | GateKind::MulConstA { x, .. }
-        | GateKind::OutA { x, .. }
-        | GateKind::XorConstB { x, .. }
-        | GateKind::SliceB { x, .. }
-        | GateKind::OutB { x, .. } => (Some(x), None),
-        _ => (None, None),
-    }
-}
-
 /// The first operand of a gate that has no value.
 fn gate_lacking(env: &Env, gate: u32) -> Option<u32>
     requires { gate < length env.now.plan.now.gates }
     ensures { result ≡ gate_lacking env.now.wires.now (operands_at env.now.plan.now.gates gate) }
 {
-    let (first, second) = operands(env.plan.gate(gate));
-    unless_held(env.wires, first).or(unless_held(env.wires, second))
+    let operands = env.plan.gate(gate).operands();
+    unless_held(env.wires, operands.first)
+        .or(unless_held(env.wires, operands.second))
+        .or(unless_held(env.wires, operands.third))
 }
 
 /// The gate, if there is one and it has no value.
@@ -96,10 +75,11 @@ pub(crate) fn held_values(alloc: Global, env: &Env, gate: u32) -> Result<Vec<Val
     ensures { IfOk result (λ values. values.items
         ≡ held_values env.now.wires.now (operands_at env.now.plan.now.gates gate)) }
 {
-    let (first, second) = operands(env.plan.gate(gate));
+    let operands = env.plan.gate(gate).operands();
     let mut values = Vec::new(alloc);
-    push_held(alloc, &mut values, env.wires, first)?;
-    push_held(alloc, &mut values, env.wires, second)?;
+    push_held(alloc, &mut values, env.wires, operands.first)?;
+    push_held(alloc, &mut values, env.wires, operands.second)?;
+    push_held(alloc, &mut values, env.wires, operands.third)?;
     Ok(values)
 }
 

@@ -1,11 +1,11 @@
 //! What a stage takes: the shares of its operands, and the party's parts of the gate's triples.
 
-ghost use Rattle.std.specs.Prelude.{◌≡◌, ◌<◌, ℕ, true, length, slice_get, Some};
+ghost use Rattle.std.specs.Prelude.{◌≡◌, ℕ, true, slice_get, Some};
 ghost use Rattle.plan_gates.specs.Gate.{Word, Vector, width_at};
 ghost use Rattle.plan_gates.specs.Plan.{IsPlan};
 ghost use Rattle.gate_tasks.specs.Party.{triple, bits_of, width};
 ghost use Rattle.gate_tasks.specs.Stage.{Serves, AreOperands, operands_of};
-ghost use Rattle.gate_tasks.specs.ByValue.{kind_in, stand, takes_of, keeps_width, is_product, is_conjunction, share_in};
+ghost use Rattle.gate_tasks.specs.ByValue.{kind_in, stand, taken_at, keeps_width, is_product, is_conjunction, word_at, vector_at};
 
 use crate::own::StageEnv;
 use crate::value::Value;
@@ -15,9 +15,8 @@ use share_types::{BitTriple, Bits, MultTriple};
 pub(crate) fn word_at(env: &StageEnv, wires: &[Value], at: usize) -> u64
     requires plan { IsPlan env.now.plan.now }
     requires operands { AreOperands env.now.plan.now env.now.gate wires.now }
-    requires words { takes_of (kind_in env.now) ≡ Some Word }
-    requires inside { at < length (operands_of (kind_in env.now)) }
-    ensures { result ≡ share_in wires.now at }
+    requires word { taken_at (kind_in env.now) at ≡ Some Word }
+    ensures { result ≡ word_at wires.now at }
 {
     match wires[at] {
         Value::A(word) => word,
@@ -29,9 +28,8 @@ pub(crate) fn word_at(env: &StageEnv, wires: &[Value], at: usize) -> u64
 pub(crate) fn vector_at(env: &StageEnv, wires: &[Value], at: usize) -> Bits
     requires plan { IsPlan env.now.plan.now }
     requires operands { AreOperands env.now.plan.now env.now.gate wires.now }
-    requires vectors { takes_of (kind_in env.now) ≡ Some Vector }
-    requires inside { at < length (operands_of (kind_in env.now)) }
-    ensures share { result.word ≡ share_in wires.now at }
+    requires vector { taken_at (kind_in env.now) at ≡ Some Vector }
+    ensures share { result.word ≡ vector_at wires.now at }
     ensures width { (x : ℕ) → slice_get (operands_of (kind_in env.now)) at ≡ Some x →
         result.width ≡ width_at env.now.plan.now.gates x }
     ensures same_width { keeps_width (kind_in env.now) ≡ true → result.width ≡ width (stand env.now) }

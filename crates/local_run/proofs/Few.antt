@@ -1,27 +1,12 @@
 -- A gate has two operands at most.
 use Rattle.std.proofs.Common.{ℕ, ◌≤◌, List, length, Option, Some, None, arith}
-use Rattle.plan_gates.specs.Gate.{Kind, InA, ConstA, AddA, SubA, AddConstA, MulConstA, MulA, OutA, InB, ConstB, XorB, XorConstB, SliceB, JoinB, AndB, OutB, operands}
+use Rattle.plan_gates.specs.Gate.{Kind, operands}
 use Rattle.gate_tasks.specs.Stage.{operands_of, kind_at, AreOperands}
 use Rattle.gate_tasks.specs.declared.value.Value.{Value}
 use Rattle.plan_gates.specs.Plan.{Gates}
 
 few : (k : Kind) → length (operands k) ≤ 2
-few (InA p n) = omega arith
-few (ConstA n) = omega arith
-few (AddA x y) = omega arith
-few (SubA x y) = omega arith
-few (AddConstA x n) = omega arith
-few (MulConstA x n) = omega arith
-few (MulA x y) = omega arith
-few (OutA x to) = omega arith
-few (InB p n at) = omega arith
-few (ConstB n) = omega arith
-few (XorB x y) = omega arith
-few (XorConstB x n) = omega arith
-few (SliceB x at) = omega arith
-few (JoinB x y) = omega arith
-few (AndB x y) = omega arith
-few (OutB x to) = omega arith
+few _ = omega arith
 
 few_of : (k : Option Kind) → length (operands_of k) ≤ 2
 few_of None = omega arith

@@ -16,7 +16,7 @@ use Rattle.plan_gates.specs.Gate.{Kind, Gate, InA, ConstA, AddA, SubA, AddConstA
 use Rattle.plan_gates.specs.declared.message.Message.{Message as Sent}
 use Rattle.plan_gates.specs.Plan.{Gates, IsPlan}
 use Rattle.plan_gates.specs.Messages.{message, messages_at, are_two, tells}
-use Rattle.plan_gates.proofs.MessageLemmas.{gate_fits, Fits}
+use Rattle.plan_gates.proofs.SlotLemmas.{message_fits}
 use Rattle.gate_tasks.specs.declared.value.Value.{Value as ValueInMemory}
 use Rattle.gate_tasks.specs.declared.value.Value.TheVariants as value
 use Rattle.gate_tasks.specs.Party as party
@@ -234,16 +234,8 @@ told_is plan owns table p cs joint are =
 payload_fits : (plan : Gates) (g from to : ℕ) (payload : Payload) (o : Option Sent) → IsPlan plan → message plan from to g 0 ≡ o → is_some o ≡ true → IfSome o (λ m. HasShape m payload) → IsSendable (frame.Message g 0 payload)
 payload_fits plan g from to payload None is there some shape = absurd (false≢true some)
 payload_fits plan g from to payload (Some m) is there some shape =
-    let fits = message_fits plan g from to m (slice_get plan.gates g) (are_two plan.parties from to) is refl refl there in
+    let fits = message_fits plan is from to g 0 m there in
     (omega (arith, shape.0, fits.some), omega (arith, shape.0, fits.most))
-  where
-    message_fits : (plan : Gates) (g from to : ℕ) (m : Sent) (o : Option Gate) (b : Bool) → IsPlan plan → slice_get plan.gates g ≡ o → are_two plan.parties from to ≡ b → message plan from to g 0 ≡ Some m → Fits m
-    message_fits plan g from to m o false is there two found = let never : message plan from to g 0 ≡ None = rw two refl in let contrary = sym never ∙ found in cc
-    message_fits plan g from to m None true is there two found = let never : message plan from to g 0 ≡ None = rw (two, there) refl in let contrary = sym never ∙ found in cc
-    message_fits plan g from to m (Some gate) true is there two found =
-        let stated : message plan from to g 0 ≡ unwrap_or (slice_get (messages_at (Some gate) from to) 0) None = rw (two, there) refl in
-        let one = is.each g gate there in
-        gate_fits gate from to 0 m one.some_width one.in_width (sym stated ∙ found)
 
 frames_sendable : (plan : Gates) (ls : List Load) (cs : List Cargo) → IsPlan plan → AllByRecursion (IsReal plan) ls → ArePairs (IsFit plan) ls cs → AllByRecursion IsSendable (frames_of ls cs)
 frames_sendable plan [] [] is real are = tt

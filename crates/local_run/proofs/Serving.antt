@@ -9,9 +9,9 @@ use Rattle.share_types.specs.declared.needs.Kind.TheVariants.{Mult, Bit, Shared,
 use Rattle.share_types.specs.Needs.{count_of, sum_of_needs}
 use Rattle.dealer_files.specs.Part.{Part}
 use Rattle.message_demux.specs.Slots.{has_high_bits}
-use Rattle.plan_gates.specs.Gate.{Kind, Gate, Vector, AndB, OutB, gives, takes, operands, width_at}
+use Rattle.plan_gates.specs.Gate.{Kind, Gate, Vector, vector as vector_use, AndB, OutB, gives, uses, operands, width_at}
 use Rattle.plan_gates.specs.declared.message.Message.{Message as Sent}
-use Rattle.plan_gates.specs.Plan.{Gates, IsPlan, IsOperand, FitWidths}
+use Rattle.plan_gates.specs.Plan.{Gates, IsPlan, IsOperand, FitWidths, sizes_of}
 use Rattle.plan_gates.specs.Needs.{offset, needs_at, all_needs}
 use Rattle.plan_gates.specs.Messages.{message, messages_of, are_two, hears, stages}
 use Rattle.plan_gates.proofs.MessageLemmas.{heard_is}
@@ -21,7 +21,7 @@ use Rattle.gate_tasks.specs.declared.value.Value.{Value as ValueInMemory}
 use Rattle.gate_tasks.specs.declared.value.Value.TheVariants as code
 use Rattle.gate_tasks.specs.declared.stage.StageOut.{StageOut}
 use Rattle.gate_tasks.specs.Party as party
-use Rattle.gate_tasks.specs.Party.{Own, Hand, Rounds, hand, share, share_of, width, before, silence, gate_sends, round_sends, wires_before}
+use Rattle.gate_tasks.specs.Party.{Own, Hand, Rounds, hand, vector_share, width, before, silence, gate_sends, round_sends, wires_before}
 use Rattle.gate_tasks.specs.Joint.{column}
 use Rattle.gate_tasks.specs.Honest.{own_at, nobody}
 use Rattle.gate_tasks.specs.Stage.{value_of, own_with, operands_of, operands_at, HasInput, IsOf, IsStage, Gives, Serves, AreOperands}
@@ -54,16 +54,16 @@ serves plan owns parts p g own part job own_there part_there known =
       session = one.session;
       input = λ gate there. subst (λ (q : ℕ). HasInput gate q own.inputs) (sym one.me) (one.inputs g gate there);
       records = λ kind some.
-          let never = records_never_meet plan.gates g (length plan.gates) kind known in
+          let never = records_never_meet plan g (length plan.gates) kind known in
           let all = one.records kind in
           omega (
             arith,
             never,
             all,
             sum_is own.bases (all_needs plan) kind,
-            sum_is (sum_of_needs own.bases (offset plan.gates g)) (needs_at (slice_get plan.gates g)) kind,
-            sum_is own.bases (offset plan.gates g) kind,
-            sum_is (offset plan.gates g) (needs_at (slice_get plan.gates g)) kind,
+            sum_is (sum_of_needs own.bases (offset plan g)) (needs_at plan g) kind,
+            sum_is own.bases (offset plan g) kind,
+            sum_is (offset plan g) (needs_at plan g) kind,
           );
     }
 
@@ -86,26 +86,18 @@ with_count plan owns parts job = with_length owns parts (job.owns_count ∙ sym 
 
 -- ---- shares of operands
 
-taken_there : {X : Type 0} (xs : List X) (k i : ℕ) (x : X) → slice_get (take k xs) i ≡ Some x → slice_get xs i ≡ Some x
-taken_there xs zero i x h = cc
-taken_there [] (suc k) i x h = h
-taken_there (y ∷ xs) (suc k) zero x h = h
-taken_there (y ∷ xs) (suc k) (suc i) x h = taken_there xs k i x h
-
-value_small : (gate : Gate) (v : ValueInMemory) → gives gate.kind ≡ Vector → IsOf gate v → share_of (value_of v) < 2 ^ gate.width
+value_small : (gate : Gate) (v : ValueInMemory) → gives gate.kind ≡ Vector → IsOf gate v → vector_share (value_of v) < 2 ^ gate.width
 value_small gate (code.A word) vector is = let contrary = sym vector ∙ is in cc
 value_small gate (code.B bits) vector is = subst (λ (w : ℕ). bits.word < 2 ^ w) is.1 bits.in_width
 value_small gate (code.Told told) vector is = let contrary = sym vector ∙ is.0 in cc
 
 -- the share of an operand is below what its gate's width allows
-operand_small : (plan : Gates) (g x w : ℕ) (h : Hand) (v : ValueInMemory) → IsOperand (take g plan.gates) Vector x → width_at (take g plan.gates) x ≡ w →
-    ((gate : Gate) → slice_get plan.gates x ≡ Some gate → IsOf gate v) → value_of v ≡ get_or h.wires x (party.Told None) → share h x < 2 ^ w
-operand_small plan g x w h v operand wide typed read =
-    let gate = operand.0 in
-    let there = taken_there plan.gates g x gate operand.1 in
-    let small = value_small gate v operand.2 (typed gate there) in
-    let same : gate.width ≡ w = ap (λ o. unwrap_or (option_map (λ (k : Gate). k.width) o) 0) (sym operand.1) ∙ wide in
-    subst (λ (n : ℕ). n < 2 ^ w) (ap share_of read) (subst (λ (n : ℕ). share_of (value_of v) < 2 ^ n) same small)
+operand_small : (plan : Gates) (g x w : ℕ) (h : Hand) (v : ValueInMemory) → IsOperand plan.gates g (vector_use x) → width_at plan.gates x ≡ w →
+    ((gate : Gate) → slice_get plan.gates x ≡ Some gate → IsOf gate v) → value_of v ≡ get_or h.wires x (party.Told None) → party.vector h x < 2 ^ w
+operand_small plan g x w h v (less, gate, there, vector) wide typed read =
+    let small = value_small gate v vector (typed gate there) in
+    let same : gate.width ≡ w = ap (λ o. unwrap_or (option_map (λ (k : Gate). k.width) o) 0) (sym there) ∙ wide in
+    subst (λ (n : ℕ). n < 2 ^ w) (ap vector_share read) (subst (λ (n : ℕ). vector_share (value_of v) < 2 ^ n) same small)
 
 -- the first value, and the second
 first_is : (vs : List ValueInMemory) (x : party.Value) (xs : List party.Value) → map value_of vs ≡ x ∷ xs → (v : ValueInMemory) × (slice_get vs 0 ≡ Some v) × (value_of v ≡ x)
@@ -119,19 +111,19 @@ second_is (v ∷ w ∷ vs) x y xs same = (w, refl, some_is (value_of w) y (ap (�
 
 -- ---- what is sent has its shape
 
-fits_by : (plan : Gates) (g : ℕ) (kind : Kind) (w : ℕ) (h : Hand) (vs : List ValueInMemory) → AllByRecursion (IsOperand (take g plan.gates) (takes kind)) (operands kind) →
-    FitWidths kind w (map (width_at (take g plan.gates)) (operands kind)) →
+fits_by : (plan : Gates) (g : ℕ) (kind : Kind) (w : ℕ) (h : Hand) (vs : List ValueInMemory) → AllByRecursion (IsOperand plan.gates g) (uses kind) →
+    FitWidths kind w (map (width_at plan.gates) (operands kind)) →
     ((i x : ℕ) (gate : Gate) (v : ValueInMemory) → slice_get (operands kind) i ≡ Some x → slice_get plan.gates x ≡ Some gate → slice_get vs i ≡ Some v → IsOf gate v) →
     map value_of vs ≡ map (λ x. get_or h.wires x (party.Told None)) (operands kind) → width h ≡ w → OperandsFit kind h
 fits_by plan g (AndB x y) w h vs uses fit types values wide =
     let one = first_is vs _ _ values in
     let two = second_is vs _ _ _ values in (
-      subst (λ (n : ℕ). share h x < 2 ^ n) (sym wide) (operand_small plan g x w h one.0 uses.0 fit.0 (λ gate there. types 0 x gate one.0 refl there one.1) one.2),
-      subst (λ (n : ℕ). share h y < 2 ^ n) (sym wide) (operand_small plan g y w h two.0 uses.1.0 fit.1.0 (λ gate there. types 1 y gate two.0 refl there two.1) two.2),
+      subst (λ (n : ℕ). party.vector h x < 2 ^ n) (sym wide) (operand_small plan g x w h one.0 uses.0 fit.0 (λ gate there. types 0 x gate one.0 refl there one.1) one.2),
+      subst (λ (n : ℕ). party.vector h y < 2 ^ n) (sym wide) (operand_small plan g y w h two.0 uses.1.0 fit.1.0 (λ gate there. types 1 y gate two.0 refl there two.1) two.2),
     )
 fits_by plan g (OutB x to) w h vs uses fit types values wide =
     let one = first_is vs _ _ values in
-    subst (λ (n : ℕ). share h x < 2 ^ n) (sym wide) (operand_small plan g x w h one.0 uses.0 fit.0 (λ gate there. types 0 x gate one.0 refl there one.1) one.2)
+    subst (λ (n : ℕ). party.vector h x < 2 ^ n) (sym wide) (operand_small plan g x w h one.0 uses.0 fit.0 (λ gate there. types 0 x gate one.0 refl there one.1) one.2)
 fits_by plan g _ w h vs uses fit types values wide = tt
 
 operands_fit : (plan : Gates) (g : ℕ) (gate : Gate) (h : Hand) (vs : List ValueInMemory) → IsPlan plan → slice_get plan.gates g ≡ Some gate → AreOperands plan g vs →
@@ -153,11 +145,10 @@ low_at h got to m None true there two fit is =
     let contrary = sym never ∙ is in cc
 low_at h got to m (Some gate) true there two fit is =
     let sends : round_sends (slice_get h.plan.gates h.gate) h got 0 to ≡ get_or (gate_sends gate.kind h (before 0 got)) 0 silence to = rw (two, there) refl in
-    let stated : message h.plan h.me to h.gate 0 ≡ unwrap_or (slice_get (messages_of gate.kind gate.width h.me to) 0) None = rw (two, there) refl in
+    let stated : message h.plan h.me to h.gate 0 ≡ unwrap_or (slice_get (messages_of gate.kind (sizes_of h.plan gate) h.me to) 0) None = rw (two, there) refl in
     let wide : width h ≡ gate.width = ap (λ o. unwrap_or (option_map (λ (k : Gate). k.width) o) 0) there in
     ap (has_high_bits m.shape) sends
-    ∙ kind_low gate.kind h (before 0 got) to m (fit gate refl)
-    (ap (λ (w : ℕ). unwrap_or (slice_get (messages_of gate.kind w h.me to) 0) None) wide ∙ sym stated ∙ is)
+    ∙ kind_low gate.kind (sizes_of h.plan gate) h (before 0 got) to m wide (fit gate refl) (sym stated ∙ is)
 
 -- ---- the whole item
 

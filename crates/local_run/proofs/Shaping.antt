@@ -16,9 +16,10 @@ use Rattle.message_demux.specs.declared.slots.Shape.TheVariants.{Words, Vectors}
 use Rattle.message_demux.specs.Slots.{vector_bytes, vectors, overflows, has_high_bits}
 use Rattle.plan_gates.specs.Gate.{Kind, InA, ConstA, AddA, SubA, AddConstA, MulConstA, MulA, OutA, InB, ConstB, XorB, XorConstB, SliceB, JoinB, AndB, OutB}
 use Rattle.plan_gates.specs.declared.message.Message.{Message as Sent}
+use Rattle.plan_gates.specs.Plan.{Sizes}
 use Rattle.plan_gates.specs.Messages.{messages_of}
 use Rattle.share_types.specs.Wires.{includes}
-use Rattle.gate_tasks.specs.Party.{Hand, Rounds, share, width, given_word, bits_of, left_vector, right_vector, given_vector, gate_sends, silence, first}
+use Rattle.gate_tasks.specs.Party.{Hand, Rounds, vector, width, given_word, bits_of, left_vector, right_vector, given_vector, gate_sends, silence, first}
 use Rattle.gate_tasks.specs.Payload.{vectors_bytes}
 use Rattle.gate_tasks.proofs.Bytes.{fits_bytes}
 
@@ -62,8 +63,8 @@ eqb_swap m n =
 
 -- the shares of the operands are below what their width allows
 abbrev pub OperandsFit : Kind → Hand → Type 0
-OperandsFit (AndB x y) h = (share h x < 2 ^ width h) × (share h y < 2 ^ width h)
-OperandsFit (OutB x to) h = share h x < 2 ^ width h
+OperandsFit (AndB x y) h = (vector h x < 2 ^ width h) × (vector h y < 2 ^ width h)
+OperandsFit (OutB x to) h = vector h x < 2 ^ width h
 OperandsFit _ h = Unit {0}
 
 told_low : (b : Bool) (w x : ℕ) (m : Sent) → x < 2 ^ w → cond b (Some (record { len = 1 * vector_bytes w; shape = Vectors 1 w })) None ≡ Some m → has_high_bits m.shape (cond b (vectors_bytes w (x ∷ [])) []) ≡ false
@@ -78,29 +79,25 @@ word_low true n payload m is =
     ap (λ s. has_high_bits s payload) (sym shape)
 word_low false n payload m is = cc
 
-pub kind_low : (kind : Kind) (h : Hand) (got : Rounds) (to : ℕ) (m : Sent) → OperandsFit kind h → unwrap_or (slice_get (messages_of kind (width h) h.me to) 0) None ≡ Some m →
+pub kind_low : (kind : Kind) (sizes : Sizes) (h : Hand) (got : Rounds) (to : ℕ) (m : Sent) → width h ≡ sizes.width → OperandsFit kind h →
+    unwrap_or (slice_get (messages_of kind sizes h.me to) 0) None ≡ Some m →
     has_high_bits m.shape (get_or (gate_sends kind h got) 0 silence to) ≡ false
-kind_low (InA party k) h got to m fit is = word_low (eqb h.me party) 8 _ m is
-kind_low (MulA x y) h got to m fit is = word_low true 16 _ m is
-kind_low (OutA x receiver) h got to m fit is = word_low (includes receiver to) 8 _ m is
-kind_low (InB party k at) h got to m fit is =
+kind_low (InA party k) sizes h got to m wide fit is = word_low (eqb h.me party) 8 _ m is
+kind_low (MulA x y) sizes h got to m wide fit is = word_low true 16 _ m is
+kind_low (OutA x receiver) sizes h got to m wide fit is = word_low (includes receiver to) 8 _ m is
+kind_low (InB party k at) sizes h got to m wide fit is =
     let small : given_vector h to < 2 ^ width h = mod-lt (given_word h to) (pow_pos (width h)) in
     let same : eqb h.me party ≡ eqb party h.me = eqb_swap h.me party in
-    told_low (eqb party h.me) (width h) (given_vector h to) m small (ap (λ (b : Bool). cond b (Some (record { len = 1 * vector_bytes (width h); shape = Vectors 1 (width h) })) None) (sym same) ∙ is)
-kind_low (AndB x y) h got to m fit is =
+    told_low (eqb party h.me) (width h) (given_vector h to) m small
+    (ap₂ (λ (b : Bool) (w : ℕ). cond b (Some (record { len = 1 * vector_bytes w; shape = Vectors 1 w })) None) (sym same) wide ∙ is)
+kind_low (AndB x y) sizes h got to m wide fit is =
     let w = width h in
-    let left : left_vector h x < 2 ^ w = xor_lt w (share h x) (bits_of h 0) fit.0 (small_bits h 0) in
-    let right : right_vector h y < 2 ^ w = xor_lt w (share h y) (bits_of h 1) fit.1 (small_bits h 1) in
-    let shape : Vectors 2 w ≡ m.shape = ap (λ o. unwrap_or (option_map (λ (n : Sent). n.shape) o) (Vectors 2 w)) is in
+    let left : left_vector h x < 2 ^ w = xor_lt w (vector h x) (bits_of h 0) fit.0 (small_bits h 0) in
+    let right : right_vector h y < 2 ^ w = xor_lt w (vector h y) (bits_of h 1) fit.1 (small_bits h 1) in
+    let shape : Vectors 2 w ≡ m.shape =
+    ap (Vectors 2) wide ∙ ap (λ o. unwrap_or (option_map (λ (n : Sent). n.shape) o) (Vectors 2 sizes.width)) is in
     ap (λ s. has_high_bits s (vectors_bytes w (left_vector h x ∷ right_vector h y ∷ []))) (sym shape) ∙ low_all w (left_vector h x ∷ right_vector h y ∷ []) (left, (right, tt))
-kind_low (OutB x receiver) h got to m fit is = told_low (includes receiver to) (width h) (share h x) m fit is
-kind_low (ConstA c) h got to m fit is = cc
-kind_low (AddA x y) h got to m fit is = cc
-kind_low (SubA x y) h got to m fit is = cc
-kind_low (AddConstA x c) h got to m fit is = cc
-kind_low (MulConstA x c) h got to m fit is = cc
-kind_low (ConstB c) h got to m fit is = cc
-kind_low (XorB x y) h got to m fit is = cc
-kind_low (XorConstB x c) h got to m fit is = cc
-kind_low (SliceB x at) h got to m fit is = cc
-kind_low (JoinB x y) h got to m fit is = cc
+kind_low (OutB x receiver) sizes h got to m wide fit is =
+    told_low (includes receiver to) (width h) (vector h x) m fit
+    (ap (λ (w : ℕ). cond (includes receiver to) (Some (record { len = 1 * vector_bytes w; shape = Vectors 1 w })) None) wide ∙ is)
+kind_low _ sizes h got to m wide fit is = cc

@@ -14,7 +14,7 @@ use Rattle.circuit_tables.specs.Table.{Output, Told, asked, joined_bits, AreCut}
 use Rattle.mot_base.proofs.Lists.{take_next}
 use Rattle.plan_gates.specs.Gate.{Gate, width_at, receiver_of}
 use Rattle.plan_gates.specs.Plan.{Gates}
-use Rattle.plan_gates.specs.Plain.{plain_before, number_at, GateTold, told_entry, told_by}
+use Rattle.plan_gates.specs.Plain.{Outside, plain_before, number_at, GateTold, told_entry, told_by}
 use Rattle.plan_gates.specs.Messages.{tells_by, tells}
 use Rattle.share_types.specs.Wires.{includes}
 use Rattle.local_run.specs.Loads.{tells_at, told_gates}
@@ -157,15 +157,15 @@ joined_is f w (g ∷ gs) (b ∷ told) words widths =
     let width = heads (λ (b : Bits). b.width) w b g told gs widths in
     ap₂ (λ (x y : List Bool). x ++ y) (ap₂ bits width.first word.first) (joined_is f w gs told word.rest width.rest)
 
-length_plain : (gates : List Gate) (inputs : List ℕ) (n : ℕ) → length (plain_before gates inputs n) ≡ n
-length_plain gates inputs zero = refl
-length_plain gates inputs (suc n) =
-    length_push (plain_before gates inputs n) (number_at gates inputs (plain_before gates inputs n) (slice_get gates n))
-    ∙ (let before = length_plain gates inputs n in omega (arith, before))
+length_plain : (gates : List Gate) (outside : Outside) (n : ℕ) → length (plain_before gates outside n) ≡ n
+length_plain gates outside zero = refl
+length_plain gates outside (suc n) =
+    length_push (plain_before gates outside n) (number_at gates outside (plain_before gates outside n) (slice_get gates n))
+    ∙ (let before = length_plain gates outside n in omega (arith, before))
 
-pub joined_entries : (plan : Gates) (inputs : List ℕ) (p : ℕ) (told : List Bits) → AreToldInPlain plan inputs p told →
-    joined_bits told ≡ bits_of_entries (told_by plan.gates (plain_before plan.gates inputs (length plan.gates))) p
-joined_entries plan inputs p told are =
-    let numbers = plain_before plan.gates inputs (length plan.gates) in
+pub joined_entries : (plan : Gates) (outside : Outside) (p : ℕ) (told : List Bits) → AreToldInPlain plan outside p told →
+    joined_bits told ≡ bits_of_entries (told_by plan.gates (plain_before plan.gates outside (length plan.gates))) p
+joined_entries plan outside p told are =
+    let numbers = plain_before plan.gates outside (length plan.gates) in
     joined_is (slice_index numbers) (width_at plan.gates) (told_to plan p) told are.words are.widths
-    ∙ told_bits_are_those_of_outputs plan numbers p (length_plain plan.gates inputs (length plan.gates))
+    ∙ told_bits_are_those_of_outputs plan numbers p (length_plain plan.gates outside (length plan.gates))

@@ -6,7 +6,7 @@ use Rattle.std.proofs.lemmas.Option.{slice_get_within}
 use Rattle.std.proofs.lemmas.List.Elements.{filter-append}
 use Rattle.share_types.specs.Sums.{each}
 use Rattle.mot_base.specs.declared.Party.{Party}
-use Rattle.plan_gates.specs.Gate.{Gate, operands, takes}
+use Rattle.plan_gates.specs.Gate.{Gate, Use, uses, operands}
 use Rattle.plan_gates.specs.Plan.{Gates, IsPlan, IsOperand}
 use Rattle.plan_gates.specs.Messages.{hears, stages, message}
 use Rattle.plan_gates.proofs.MessageLemmas.{heard_is}
@@ -100,9 +100,7 @@ AreBefore g xs = AllByRecursion (λ x. x < g) xs
 operands_before : (plan : Gates) (g : ℕ) (o : Option Gate) → slice_get plan.gates g ≡ o → IsPlan plan → AreBefore g (operands_of (option_map (λ gate. gate.kind) o))
 operands_before plan g None there is = tt
 operands_before plan g (Some gate) there is =
-    all_more (IsOperand (take g plan.gates) (takes gate.kind)) (λ x. x < g)
-    (λ x operand. let within = slice_get_within (take g plan.gates) x operand.0 operand.1 in omega (arith, within, length-take g plan.gates))
-    (operands gate.kind) (is.each g gate there).uses
+    all_map (λ x. x < g) (λ (used : Use). used.gate) (IsOperand plan.gates g) (λ used operand. operand.0) (uses gate.kind) (is.each g gate there).uses
 
 pub operands_are_before : (plan : Gates) (g : ℕ) → IsPlan plan → AreBefore g (operands_at plan.gates g)
 operands_are_before plan g is = operands_before plan g (slice_get plan.gates g) refl is

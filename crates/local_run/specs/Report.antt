@@ -7,7 +7,7 @@ use Rattle.frames.specs.declared.frame.Frame.TheVariants as frame
 use Rattle.frames.specs.Bytes.{joined}
 use Rattle.plan_gates.specs.Gate.{width_at}
 use Rattle.plan_gates.specs.Plan.{Gates}
-use Rattle.plan_gates.specs.Plain.{plain_before}
+use Rattle.plan_gates.specs.Plain.{Outside, plain_before}
 use Rattle.gate_tasks.specs.declared.value.Value.TheVariants as value
 use Rattle.gate_tasks.specs.Party as party
 use Rattle.gate_tasks.specs.Party.{Own, party_value}
@@ -55,9 +55,9 @@ pub record AreReports
       slice_get reports p ≡ Some report → IsReport plan owns table p report
 
 -- the numbers that a party is told by the plain evaluation
-abbrev pub plain_told : Gates → List ℕ → ℕ → List ℕ
-plain_told plan inputs p =
-    map (slice_index (plain_before plan.gates inputs (length plan.gates))) (told_to plan p)
+abbrev pub plain_told : Gates → Outside → ℕ → List ℕ
+plain_told plan outside p =
+    map (slice_index (plain_before plan.gates outside (length plan.gates))) (told_to plan p)
 
 -- ---- of what came to the end
 

@@ -7,7 +7,7 @@ use Rattle.circuit_tables.specs.Table.{Told}
 use Rattle.plan_gates.specs.Gate.{width_at}
 use Rattle.plan_gates.specs.Plan.{Gates}
 use Rattle.share_types.specs.Wires.{includes}
-use Rattle.plan_gates.specs.Plain.{GateTold, told_by}
+use Rattle.plan_gates.specs.Plain.{Outside, GateTold, told_by}
 use Rattle.local_run.specs.Report.{told_to, plain_told}
 
 -- the bits that the gates of a plan tell a party, where these are the numbers of all gates
@@ -30,6 +30,6 @@ abbrev pub outputs_to : ℕ → List Told → List Told
 outputs_to p outputs = filter (λ output. includes output.to p) outputs
 
 -- a party's told vectors have the numbers that the plan computes in plain for it, each in its gate's width
-pub record AreToldInPlain (plan : Gates) (inputs : List ℕ) (p : ℕ) (told : List Bits) : Type 0 where
-  pub words : map (λ b. b.word) told ≡ plain_told plan inputs p
+pub record AreToldInPlain (plan : Gates) (outside : Outside) (p : ℕ) (told : List Bits) : Type 0 where
+  pub words : map (λ b. b.word) told ≡ plain_told plan outside p
   pub widths : map (λ b. b.width) told ≡ map (width_at plan.gates) (told_to plan p)

@@ -2,16 +2,15 @@
 
 ghost use Rattle.std.specs.Prelude.{◌≡◌, ◌<◌, ◌≤◌, ◌+◌, ◌++◌, ◌∷◌, [], map, length, slice_get, is_some, Some, IfOk, OnOk};
 ghost use Rattle.std.specs.Option.{option_to_list};
-ghost use Rattle.plan_gates.specs.Gate.{kind_of, operands, receiver_of};
-ghost use Rattle.plan_gates.specs.Messages.{message, tells_by};
+ghost use Rattle.plan_gates.specs.Messages.{message};
 ghost use Rattle.share_types.specs.Wires.{includes};
 ghost use Rattle.local_run.specs.declared.item.Load.TheVariants.{Wire};
-ghost use Rattle.local_run.specs.Loads.{wires_to, heard_by, loads_to, tells_at, told_gates, sent_at, sent_before, report_loads, reports_loads};
+ghost use Rattle.local_run.specs.Loads.{wires_to, heard_by, loads_to, told_gates, sent_at, sent_before, report_loads, reports_loads};
 
 use crate::item::{Item, Load};
 use circuit_tables::Receiver;
 use mot_base::{NoMemory, Party};
-use plan_gates::{GateKind, Plan};
+use plan_gates::Plan;
 
 /// Adds what flows into an item at the end.
 pub(crate) fn push_loads(plan: &Plan, item: Item, loads: &mut Vec<Load>) -> Result<(), NoMemory>
@@ -42,9 +41,10 @@ fn push_wires(plan: &Plan, gate: u32, party: Party, loads: &mut Vec<Load>) -> Re
     requires { gate < length plan.now.gates }
     ensures { OnOk result (loads.new.items ≡ loads.old.items ++ wires_to plan.now gate party) }
 {
-    let (first, second) = operands(plan.gate(gate));
-    push_wire(first, party, loads)?;
-    push_wire(second, party, loads)?;
+    let operands = plan.gate(gate).operands();
+    push_wire(operands.first, party, loads)?;
+    push_wire(operands.second, party, loads)?;
+    push_wire(operands.third, party, loads)?;
     Ok(())
 }
 
@@ -58,30 +58,6 @@ fn push_wire(gate: Option<u32>, party: Party, loads: &mut Vec<Load>) -> Result<(
     };
     loads.push(Load::Wire { gate, party })?;
     Ok(())
-}
-
-/// The operands of a gate, in order.
-fn operands(kind: GateKind) -> (Option<u32>, Option<u32>)
-    ensures { option_to_list result.0 ++ option_to_list result.1 ≡ operands (kind_of kind) }
-{
-    match kind {
-        GateKind::AddA { x, y }
-        | GateKind::SubA { x, y }
-        | GateKind::MulA { x, y }
-        | GateKind::XorB { x, y }
-        | GateKind::JoinB { x, y }
-        | GateKind::AndB { x, y } => (Some(x), Some(y)),
-        GateKind::AddConstA { x, .. }
-        | GateKind::MulConstA { x, .. }
-        | GateKind::OutA { x, .. }
-        | GateKind::XorConstB { x, .. }
-        | GateKind::SliceB { x, .. }
-        | GateKind::OutB { x, .. } => (Some(x), None),
-        GateKind::InA { .. }
-        | GateKind::ConstA { .. }
-        | GateKind::InB { .. }
-        | GateKind::ConstB { .. } => (None, None),
-    }
 }
 
 /// Adds what a party waits for in its second stage of a gate at the end.
@@ -110,7 +86,7 @@ pub(crate) fn push_told(plan: &Plan, party: Party, loads: &mut Vec<Load>) -> Res
         ≡ loads.old.items ++ map (λ g. Wire g party) (told_gates plan.now party.0 (length plan.now.gates))) }
 {
     for gate in 0..plan.gates() {
-        if !is_told(plan, gate, party) {
+        if !plan.tells(party, gate) {
             continue;
         }
         loads.push(Load::Wire { gate, party })?;
@@ -154,22 +130,4 @@ fn is_sent(plan: &Plan, gate: u32, from: Party, to: Party) -> bool
     ensures { result ≡ is_some (message plan.now from.0 to.0 gate 0) }
 {
     plan.slot(from, to, gate, 0).is_some()
-}
-
-/// Whether a gate tells its value to a party.
-pub(crate) fn is_told(plan: &Plan, gate: u32, party: Party) -> bool
-    requires { gate < length plan.now.gates }
-    ensures { result ≡ tells_at (slice_get plan.now.gates gate) party.0 }
-{
-    tells(plan.gate(gate), party)
-}
-
-/// Whether a gate of a kind tells its value to a party.
-fn tells(kind: GateKind, party: Party) -> bool
-    ensures { result ≡ tells_by party.0 (receiver_of (kind_of kind)) }
-{
-    match kind {
-        GateKind::OutA { to, .. } | GateKind::OutB { to, .. } => to.includes(party),
-        _ => false,
-    }
 }

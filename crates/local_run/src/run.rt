@@ -31,10 +31,10 @@ pub fn local_turns(
         IfOk result (λ reports. (table : Payloads) → IsJoint job.now.plan owns table →
         AreReports job.now.plan owns table reports.items) }
     ensures plain { let owns = owns_with job.now.owns.items parts.now in
-        IfOk result (λ reports. (bases : Needs) (session : ℕ) (inputs : List ℕ) →
-        AreHonest job.now.plan owns bases session → AreInputs job.now.plan owns inputs →
+        IfOk result (λ reports. (bases : Needs) (session : ℕ) (outside : Outside) →
+        AreHonest job.now.plan owns bases session → AreInputs job.now.plan owns outside.inputs →
         (p : ℕ) (report : spec.PartyReport) → slice_get reports.items p ≡ Some report →
-        map (λ bits. bits.word) report.told ≡ plain_told job.now.plan inputs p) }
+        map (λ bits. bits.word) report.told ≡ plain_told job.now.plan outside p) }
 {
     let _parties = job.plan.parties();
     let graph = RunGraph::new(alloc, &job.plan)?;

@@ -274,7 +274,7 @@ has_sender plan to (suc n) from g round m h is e = elim (cases_lt from n) [
       (has_gate plan to from (length plan.gates) g round m is.gate is.round e)))
 ]
 
-message_fits : (plan : Gates) → IsPlan plan → (from to g round : ℕ) (m : Message) → message plan from to g round ≡ Some m → Fits m
+pub message_fits : (plan : Gates) → IsPlan plan → (from to g round : ℕ) (m : Message) → message plan from to g round ≡ Some m → Fits m
 message_fits plan valid from to g round m e =
     fits (slice_get plan.gates g) refl (sent_parts plan.parties from to (unwrap_or (slice_get (messages_at plan (slice_get plan.gates g) from to) round) None) m e).1
   where

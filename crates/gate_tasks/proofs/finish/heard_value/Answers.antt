@@ -1,7 +1,7 @@
 use Rattle.std.proofs.Common.{◌≡◌, ◌<◌, ◌≤◌, ◌+◌, ◌*◌, ◌^◌, length, refl, subst, sym, ◌∙◌, ap, ap₂, arith, cond, [], get_or}
 use Rattle.std.specs.Prelude.{All, ◌==◌}
 use Rattle.message_demux.specs.Slots.{vector_bytes}
-use Rattle.plan_gates.specs.Gate.{InA, InB, OutA, OutB, width_at}
+use Rattle.plan_gates.specs.Gate.{InA, InB, OutA, OutB, width_at, word}
 use Rattle.mot_base.specs.Limits.{most_width}
 use Rattle.gate_tasks.specs.Party.{Payload, WordShare, VectorShare, kept_word, kept_vector, width}
 use Rattle.gate_tasks.specs.Payload.{word_in, vector_in}
@@ -113,7 +113,7 @@ pub returns-in-OutA-clause-typed : goal.returns-in-OutA-clause-typed
 returns-in-OutA-clause-typed c =
     let env = c.args.env.now in
     let kind = OutA c.in-OutA.x c.in-OutA.to in
-    let wide = word_width env.plan.now env.gate kind c.in-OutA.x c.requires.plan c.in-OutA.ensures.kind refl refl refl in
+    let wide = word_width env.plan.now env.gate kind (word c.in-OutA.x) c.requires.plan c.in-OutA.ensures.kind refl refl refl in
     subst (λ w. IsGiven (gives_of (kind_in env)) w c.told_word.result) (sym wide)
     (c.told_word.ensures.typed (gives_of (kind_in env)) (ap gives_of c.in-OutA.ensures.kind))
 

@@ -10,7 +10,7 @@ overflow_add-first c =
     let has = has_bits env.plan.now env.own.now env.part.now env.gate c.requires.plan c.requires.serves c.requires.conjunction in
     let there = has.there in
     let few = c.is_part.ensures.bit in
-    let at : c.offset.result.bit ≡ (offset env.plan.now.gates env.gate).bit = ap (λ n. n.bit) c.offset.ensures in
+    let at : c.offset.result.bit ≡ (offset env.plan.now env.gate).bit = ap (λ n. n.bit) c.offset.ensures in
     omega (arith, there, few, at)
 
 pub bits-requires-clause-some : goal.bits-requires-clause-some
@@ -30,6 +30,6 @@ bits-requires-clause-inside c =
     let env = c.args.env.now in
     let has = has_bits env.plan.now env.own.now env.part.now env.gate c.requires.plan c.requires.serves c.requires.conjunction in
     let there = has.there in
-    let at : c.offset.result.bit ≡ (offset env.plan.now.gates env.gate).bit = ap (λ n. n.bit) c.offset.ensures in
+    let at : c.offset.result.bit ≡ (offset env.plan.now env.gate).bit = ap (λ n. n.bit) c.offset.ensures in
     let wide = its_width env.plan.now.gates env.gate c.width.result c.width.ensures in
     omega (arith, there, at, wide)

@@ -1,0 +1,119 @@
+-- Shares of words and of vectors, and payloads that are read back.
+use Rattle.std.proofs.Common.{ℕ, zero, suc, ◌≡◌, ◌<◌, ◌≤◌, ◌+◌, ◌*◌, ◌%◌, ◌^◌, Bool, true, false, cond, List, [], ◌∷◌, length, map, take, Some, refl, sym, ◌∙◌, ap, arith, length-take}
+use Rattle.std.specs.Prelude.{slice_get, get_or, bit_and, bit_xor}
+use Rattle.std.proofs.lemmas.Nat.{mul-mod, and_le_l, pow-add, xor_comm}
+use Rattle.std.proofs.lemmas.Bool.{ne_eqb, lt-ltb}
+use Rattle.share_types.specs.Sums.{word_sum, word_difference, word_product, part_of_public, sum_to, xor_to, xor_total}
+use Rattle.plan_gates.specs.Messages.{are_two}
+use Rattle.gate_tasks.specs.Payload.{word_bytes, word_in, vectors_bytes, vector_in}
+use Rattle.std.proofs.Math.Nat.{mul-suc, mul-le-mul_left}
+use Rattle.gate_tasks.proofs.Xors.{xor_public, and_closes}
+use Rattle.std.proofs.Math.Pow.{pow_mono}
+use Rattle.std.specs.Int.Bits.{xor_assoc}
+use Rattle.dealer_files.specs.Records.{vector_of}
+use Rattle.dealer_files.proofs.Vectors.{vector-small}
+use Rattle.gate_tasks.proofs.Bytes.{payloads_read_back}
+use Rattle.gate_tasks.proofs.Sums.{sum_mod, sum_plus, sum_times, sum_public}
+
+pub two : (n p q : ℕ) → p < n → q < n → (p ≡ q → ⊥) → are_two n p q ≡ true
+two n p q a b apart = rw (lt-ltb p n a, lt-ltb q n b, ne_eqb p q apart) refl
+
+-- ---- sums of shares
+
+pub sum_added : (n : ℕ) (f g : ℕ → ℕ) (a b : ℕ) → sum_to n f % 2 ^ 64 ≡ a % 2 ^ 64 → sum_to n g % 2 ^ 64 ≡ b % 2 ^ 64 →
+    sum_to n (λ p. word_sum (f p) (g p)) % 2 ^ 64 ≡ (a + b) % 2 ^ 64
+sum_added n f g a b left right =
+    let same = sum_mod n (λ p. word_sum (f p) (g p)) (λ p. f p + g p) (λ p h. omega arith) in
+    let split = sum_plus n f g in
+    omega (arith, left, right, same, split)
+
+pub sum_subtracted : (n : ℕ) (f g : ℕ → ℕ) (a b : ℕ) → sum_to n f % 2 ^ 64 ≡ a % 2 ^ 64 → sum_to n g % 2 ^ 64 ≡ b % 2 ^ 64 →
+    sum_to n (λ p. word_difference (f p) (g p)) % 2 ^ 64 ≡ word_difference a b % 2 ^ 64
+sum_subtracted n f g a b left right =
+    let same = sum_mod n (λ p. word_difference (f p) (g p) + g p) f (λ p h. omega arith) in
+    let split = sum_plus n (λ p. word_difference (f p) (g p)) g in
+    omega (arith, left, right, same, split)
+
+pub sum_scaled : (n : ℕ) (f : ℕ → ℕ) (a c : ℕ) → sum_to n f % 2 ^ 64 ≡ a % 2 ^ 64 →
+    sum_to n (λ p. word_product (f p) c) % 2 ^ 64 ≡ (a * c) % 2 ^ 64
+sum_scaled n f a c left =
+    sum_mod n (λ p. word_product (f p) c) (λ p. f p * c) (λ p h. omega arith)
+    ∙ (ap (λ s. s % 2 ^ 64) (sum_times n f c)
+    ∙ (mul-mod (sum_to n f) c (2 ^ 64) ∙ (ap (λ m. (m * (c % 2 ^ 64)) % 2 ^ 64) left ∙ sym (mul-mod a c (2 ^ 64)))))
+
+pub word_first : (x : ℕ) (ws : List ℕ) → word_in (word_bytes (x ∷ ws)) 0 ≡ x % 2 ^ 64
+word_first x ws = payloads_read_back.0 (x ∷ ws) 0 x refl
+
+pub word_second : (x y : ℕ) (ws : List ℕ) → word_in (word_bytes (x ∷ y ∷ ws)) 1 ≡ y % 2 ^ 64
+word_second x y ws = payloads_read_back.0 (x ∷ y ∷ ws) 1 y refl
+
+pub back : (x y : ℕ) → (word_difference x y + y) % 2 ^ 64 ≡ x % 2 ^ 64
+back x y = omega arith
+
+pub found_inside : {X : Type 0} (xs : List X) (k : ℕ) (x : X) → slice_get xs k ≡ Some x → k < length xs
+found_inside [] k x h = cc
+found_inside (y ∷ xs) zero x h = omega arith
+found_inside (y ∷ xs) (suc k) x h = let less = found_inside xs k x h in omega (arith, less)
+
+pub public : (m c : ℕ) → 0 < m → sum_to m (λ p. part_of_public p c) ≡ c
+public zero c h = absurd (omega (arith, h))
+public (suc m) c h = sum_public m c
+
+pub cut : (v w : ℕ) → w ≡ 64 → v % 2 ^ w % 2 ^ 64 ≡ v % 2 ^ 64
+cut v w e = ap (λ k. v % 2 ^ k % 2 ^ 64) e ∙ omega arith
+
+pub vector_first : (w x : ℕ) (vs : List ℕ) → x < 2 ^ w → vector_in w (vectors_bytes w (x ∷ vs)) 0 ≡ x
+vector_first w x vs small = payloads_read_back.1 w (x ∷ vs) 0 x refl small
+
+pub vector_second : (w x y : ℕ) (vs : List ℕ) → y < 2 ^ w → vector_in w (vectors_bytes w (x ∷ y ∷ vs)) 1 ≡ y
+vector_second w x y vs small = payloads_read_back.1 w (x ∷ y ∷ vs) 1 y refl small
+
+pub choose : (w : ℕ) (b : Bool) (x y : ℕ) → x < 2 ^ w → y < 2 ^ w → cond b x y < 2 ^ w
+choose w true x y p q = p
+choose w false x y p q = q
+
+pub xor_total_is : {X : Type 0} (f : X → ℕ) (xs : List X) (d : X) → xor_total (map f xs) ≡ xor_to (length xs) (λ p. f (get_or xs p d))
+xor_total_is f [] d = refl
+xor_total_is f (x ∷ xs) d =
+    ap (bit_xor (f x)) (xor_total_is f xs d) ∙ sym (xor_first (length xs) (λ p. f (get_or (x ∷ xs) p d)))
+  where
+    xor_first : (m : ℕ) (h : ℕ → ℕ) → xor_to (suc m) h ≡ bit_xor (h 0) (xor_to m (λ p. h (suc p)))
+    xor_first zero h = xor_comm 0 (h 0)
+    xor_first (suc m) h = ap (λ v. bit_xor v (h (suc m))) (xor_first m h) ∙ xor_assoc (h 0) (xor_to m (λ p. h (suc p))) (h (suc m))
+
+pub length_mapped : {X Y : Type 0} (f : X → Y) (xs : List X) → length (map f xs) ≡ length xs
+length_mapped f [] = refl
+length_mapped f (x ∷ xs) = ap suc (length_mapped f xs)
+
+pub get_or_mapped : {X Y : Type 0} (f : X → Y) (xs : List X) (k : ℕ) (d : X) → get_or (map f xs) k (f d) ≡ f (get_or xs k d)
+get_or_mapped f [] k d = refl
+get_or_mapped f (x ∷ xs) zero d = refl
+get_or_mapped f (x ∷ xs) (suc k) d = get_or_mapped f xs k d
+
+pub short_vector : (bit w : ℕ) (rs : List ℕ) → vector_of bit (take w rs) < 2 ^ w
+short_vector bit w rs =
+    let small = vector-small bit (take w rs) in
+    let count = length-take w rs in
+    let grows : 2 ^ length (take w rs) ≤ 2 ^ w = pow_mono (omega (arith, count)) in
+    omega (arith, small, grows)
+
+pub and_small : (w a b : ℕ) → a < 2 ^ w → bit_and a b < 2 ^ w
+and_small w a b small = let less = and_le_l a b in omega (arith, small, less)
+
+pub join_small : (u v a b : ℕ) → a < 2 ^ u → b < 2 ^ v → a + 2 ^ u * b < 2 ^ (u + v)
+join_small u v a b p q =
+    let split : 2 ^ (u + v) ≡ 2 ^ u * 2 ^ v = pow-add 2 u v in
+    let room : 2 ^ u * suc b ≤ 2 ^ u * 2 ^ v = mul-le-mul_left (2 ^ u) q in
+    let next : 2 ^ u * suc b ≡ 2 ^ u * b + 2 ^ u = mul-suc (2 ^ u) b in
+    omega (arith, p, split, room, next)
+
+pub and_closed : (m : ℕ) (a b c : ℕ → ℕ) (x y : ℕ) → 0 < m → xor_to m c ≡ bit_and (xor_to m a) (xor_to m b) →
+    xor_to m (λ p. bit_xor (bit_xor (bit_xor (c p) (bit_and (bit_xor x (xor_to m a)) (b p))) (bit_and (bit_xor y (xor_to m b)) (a p)))
+    (part_of_public p (bit_and (bit_xor x (xor_to m a)) (bit_xor y (xor_to m b)))))
+    ≡ bit_and x y
+and_closed zero a b c x y h honest = absurd (omega (arith, h))
+and_closed (suc m) a b c x y h honest = and_closes m a b c x y honest
+
+pub public_xor : (m c : ℕ) → 0 < m → xor_to m (λ p. part_of_public p c) ≡ c
+public_xor zero c h = absurd (omega (arith, h))
+public_xor (suc m) c h = xor_public m c
