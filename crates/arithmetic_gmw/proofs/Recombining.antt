@@ -1,122 +1,86 @@
 -- Why what the parties make of their shares are shares of what the calls stand for.
-use Rattle.std.proofs.Common.{◌≡◌, ℕ, zero, suc, ◌+◌, ◌*◌, ◌%◌, ◌^◌, ◌<◌, List, [], ◌∷◌, length, map, zip, refl, sym, ◌∙◌, arith}
-use Rattle.std.proofs.Math.Dec.{eqb-suc-zero}
+use Rattle.std.proofs.Common.{◌≡◌, ℕ, zero, suc, ◌+◌, ◌*◌, ◌%◌, ◌^◌, ◌<◌, refl, sym, ap, ◌∙◌, arith}
 use Rattle.std.proofs.lemmas.Nat.{mul-mod}
 use Rattle.share_types.specs.declared.records.MultTriple.{MultTriple}
-use Rattle.share_types.specs.Sums.{word_sum, word_difference, word_product, total, Recombines, part_of_public, by_number, by_party}
+use Rattle.share_types.specs.Sums.{word_sum, word_difference, word_product, part_of_public, sum_to}
 use Rattle.arithmetic_gmw.specs.Shares.{raised_share, opened_left, opened_right, closed_share}
-use Rattle.arithmetic_gmw.specs.Laws.{IsTriple, SumRecombines, DifferenceRecombines, ScaledRecombines, RaisedRecombines, ProductRecombines}
+use Rattle.arithmetic_gmw.specs.Laws.{IsTriple, AreShares, SumRecombines, DifferenceRecombines, ScaledRecombines, RaisedRecombines, ProductRecombines}
+use Rattle.arithmetic_gmw.proofs.Sums.{sum_mod, sum_plus, sum_times, sum_public, none_of_public}
 
 -- a and b are the same modulo 2^64
 record Same (a b : ℕ) : Type 0 where
   is : a % 2 ^ 64 ≡ b % 2 ^ 64
 
--- sums and products of what is the same modulo 2^64 are the same
-plus : {a b c d : ℕ} → Same a b → Same c d → Same (a + c) (b + d)
-plus e f = let p = e.is in let q = f.is in record { is = omega arith }
-
+-- products of what is the same modulo 2^64 are the same
 times : {a b c d : ℕ} → Same a b → Same c d → Same (a * c) (b * d)
 times {a} {b} {c} {d} e f = record { is = mul-mod a c (2 ^ 64) ∙ (rw (e.is, f.is) refl ∙ sym (mul-mod b d (2 ^ 64))) }
 
-sums : (xs ys : List ℕ) → length xs ≡ length ys →
-    Same (total (map (λ (p, q). word_sum p q) (zip xs ys))) (total xs + total ys)
-sums [] [] e = record { is = refl }
-sums [] (y ∷ ys) e = omega arith
-sums (x ∷ xs) [] e = omega arith
-sums (x ∷ xs) (y ∷ ys) e =
-    let rest = (sums xs ys (omega arith)).is in record { is = omega arith }
-
 pub sum-recombines : SumRecombines
-sum-recombines xs ys x y e p q = let here = (sums xs ys e).is in omega arith
-
-differences : (xs ys : List ℕ) → length xs ≡ length ys →
-    Same (total (map (λ (p, q). word_difference p q) (zip xs ys)) + total ys) (total xs)
-differences [] [] e = record { is = refl }
-differences [] (y ∷ ys) e = omega arith
-differences (x ∷ xs) [] e = omega arith
-differences (x ∷ xs) (y ∷ ys) e =
-    let rest = (differences xs ys (omega arith)).is in record { is = omega arith }
+sum-recombines n f g x y left right =
+    let same = sum_mod n (λ p. word_sum (f p) (g p)) (λ p. f p + g p) (λ p h. omega arith) in
+    let split = sum_plus n f g in
+    omega (arith, left, right, same, split)
 
 pub difference-recombines : DifferenceRecombines
-difference-recombines xs ys x y e p q = let here = (differences xs ys e).is in omega arith
-
-scaled : (xs : List ℕ) (c : ℕ) → Same (total (map (λ p. word_product p c) xs)) (total xs * c)
-scaled [] c = record { is = omega arith }
-scaled (x ∷ xs) c = let rest = (scaled xs c).is in record { is = omega arith }
+difference-recombines n f g x y left right =
+    let same = sum_mod n (λ p. word_difference (f p) (g p) + g p) f (λ p h. omega arith) in
+    let split = sum_plus n (λ p. word_difference (f p) (g p)) g in
+    omega (arith, left, right, same, split)
 
 pub scaled-recombines : ScaledRecombines
-scaled-recombines xs x c p =
-    (scaled xs c).is ∙ (times {a = total xs} {b = x} {c = c} {d = c} (record { is = p }) (record { is = refl })).is
-
--- parties other than the first add nothing of a public number
-no_part : (n c : ℕ) → 0 < n → part_of_public n c ≡ 0
-no_part zero c h = omega arith
-no_part (suc n) c h = rw eqb-suc-zero refl
-
-raised_rest : (xs : List ℕ) (c n : ℕ) → 0 < n →
-    Same (total (by_number (λ me p. raised_share me p c) n xs)) (total xs)
-raised_rest [] c n h = record { is = refl }
-raised_rest (x ∷ xs) c n h =
-    let rest = (raised_rest xs c (n + 1) (omega arith)).is in
-    let nothing = no_part n c h in record { is = omega arith }
+scaled-recombines n f x c left =
+    sum_mod n (λ p. word_product (f p) c) (λ p. f p * c) (λ p h. omega arith)
+    ∙ (ap (λ s. s % 2 ^ 64) (sum_times n f c)
+    ∙ (times {a = sum_to n f} {b = x} {c = c} {d = c} (record { is = left }) (record { is = refl })).is)
 
 pub raised-recombines : RaisedRecombines
-raised-recombines [] x c h p = omega arith
-raised-recombines (s ∷ xs) x c h p = let rest = (raised_rest xs c 1 (omega arith)).is in omega arith
+raised-recombines zero f x c some left = absurd (omega (arith, some))
+raised-recombines (suc n) f x c some left =
+    sum-recombines (suc n) f (λ p. part_of_public p c) x c left (let whole = sum_public n c in omega (arith, whole))
 
--- a multiplication by parties of any kind, each with a share of either operand and a part of a triple
-module _ {P : Type 0} (left right : P → ℕ) (triple : P → MultTriple) where
-  -- the sums of the parties' parts of the triple
-  abbrev sum_a : List P → ℕ
-  sum_a ps = total (map (λ t. t.a) (map triple ps))
+-- ---- products
 
-  abbrev sum_b : List P → ℕ
-  sum_b ps = total (map (λ t. t.b) (map triple ps))
+module _ (left right : ℕ → ℕ) (triple : ℕ → MultTriple) where
+  abbrev sum_a : ℕ → ℕ
+  sum_a n = sum_to n (λ p. (triple p).a)
 
-  abbrev sum_c : List P → ℕ
-  sum_c ps = total (map (λ t. t.c) (map triple ps))
+  abbrev sum_b : ℕ → ℕ
+  sum_b n = sum_to n (λ p. (triple p).b)
+
+  abbrev sum_c : ℕ → ℕ
+  sum_c n = sum_to n (λ p. (triple p).c)
 
   -- what is opened is less by the triple's part than what is shared
-  lefts : (ps : List P) →
-      Same (total (map (λ p. opened_left (left p) (triple p)) ps) + sum_a ps) (total (map left ps))
-  lefts [] = record { is = refl }
-  lefts (p ∷ ps) = let rest = (lefts ps).is in record { is = omega arith }
+  lefts : (n : ℕ) → Same (sum_to n (λ p. opened_left (left p) (triple p)) + sum_a n) (sum_to n left)
+  lefts zero = record { is = refl }
+  lefts (suc n) = let rest = (lefts n).is in record { is = omega arith }
 
-  rights : (ps : List P) →
-      Same (total (map (λ p. opened_right (right p) (triple p)) ps) + sum_b ps) (total (map right ps))
-  rights [] = record { is = refl }
-  rights (p ∷ ps) = let rest = (rights ps).is in record { is = omega arith }
-
-  -- the closed shares of the parties after the first
-  closed_rest : (ps : List P) (d e n : ℕ) → 0 < n →
-      Same (total (by_number (λ me p. closed_share me (triple p) d e) n ps))
-      (sum_c ps + d * sum_b ps + e * sum_a ps)
-  closed_rest [] d e n h = record { is = omega arith }
-  closed_rest (p ∷ ps) d e n h =
-      let rest = (closed_rest ps d e (n + 1) (omega arith)).is in
-      let nothing = no_part n (d * e) h in record { is = omega arith }
+  rights : (n : ℕ) → Same (sum_to n (λ p. opened_right (right p) (triple p)) + sum_b n) (sum_to n right)
+  rights zero = record { is = refl }
+  rights (suc n) = let rest = (rights n).is in record { is = omega arith }
 
   -- the closed shares of all parties
-  closed : (p : P) (ps : List P) (d e : ℕ) →
-      Same (total (by_party (λ me q. closed_share me (triple q) d e) (p ∷ ps)))
-      (sum_c (p ∷ ps) + d * sum_b (p ∷ ps) + e * sum_a (p ∷ ps) + d * e)
-  closed p ps d e = let rest = (closed_rest ps d e 1 (omega arith)).is in record { is = omega arith }
+  closed : (n d e : ℕ) →
+      Same (sum_to (suc n) (λ p. closed_share p (triple p) d e))
+      (sum_c (suc n) + d * sum_b (suc n) + e * sum_a (suc n) + d * e)
+  closed zero d e = record { is = omega arith }
+  closed (suc n) d e =
+      let rest = (closed n d e).is in
+      let nothing = none_of_public n (d * e) in record { is = omega arith }
 
-  pub product_of : (parties : List P) (x y d e : ℕ) → IsTriple (map triple parties) →
-      Recombines (map left parties) x → Recombines (map right parties) y →
-      Recombines (map (λ p. opened_left (left p) (triple p)) parties) d →
-      Recombines (map (λ p. opened_right (right p) (triple p)) parties) e →
-      Recombines (by_party (λ me p. closed_share me (triple p) d e) parties) (x * y)
-  product_of [] x y d e triples as_x as_y as_d as_e =
+  product_of : (n x y d e : ℕ) → IsTriple n triple → AreShares n left x → AreShares n right y →
+      AreShares n (λ p. opened_left (left p) (triple p)) d → AreShares n (λ p. opened_right (right p) (triple p)) e →
+      AreShares n (λ p. closed_share p (triple p) d e) (x * y)
+  product_of zero x y d e triples as_x as_y as_d as_e =
       (times {a = 0} {b = x} {c = 0} {d = y} (record { is = as_x }) (record { is = as_y })).is
-  product_of (p ∷ ps) x y d e triples as_x as_y as_d as_e =
-      let first = (lefts (p ∷ ps)).is in
-      let second = (rights (p ∷ ps)).is in
-      let here = (closed p ps d e).is in
-      let whole_x : Same (d + sum_a (p ∷ ps)) x = record { is = omega arith } in
-      let whole_y : Same (e + sum_b (p ∷ ps)) y = record { is = omega arith } in
+  product_of (suc n) x y d e triples as_x as_y as_d as_e =
+      let first = (lefts (suc n)).is in
+      let second = (rights (suc n)).is in
+      let here = (closed n d e).is in
+      let whole_x : Same (d + sum_a (suc n)) x = record { is = omega arith } in
+      let whole_y : Same (e + sum_b (suc n)) y = record { is = omega arith } in
       let product = (times whole_x whole_y).is in
       omega arith
 
 pub product-recombines : ProductRecombines
-product-recombines parties = product_of (λ p. p.left) (λ p. p.right) (λ p. p.triple) parties
+product-recombines n left right triple = product_of left right triple n

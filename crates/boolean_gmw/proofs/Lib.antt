@@ -1,2 +1,3 @@
+pub mod Xors
 pub mod Recombining
 mod Sharing

@@ -6,7 +6,7 @@ use Rattle.std.specs.Int.Bits.{xor_assoc, xor_zero_l}
 use Rattle.std.proofs.lemmas.Nat.{xor_comm}
 use Rattle.share_types.specs.Sums.{xor_total, RecombinesByXor, xor_to, each}
 use Rattle.share_types.proofs.Parties.{xor_total-each, xor_to_same}
-use Rattle.boolean_gmw.proofs.Recombining.{undone}
+use Rattle.boolean_gmw.proofs.Xors.{undone}
 
 -- what the parties have, but for one party, that has this
 abbrev with_own : (ℕ → ℕ) → ℕ → ℕ → ℕ → ℕ

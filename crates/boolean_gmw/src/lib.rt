@@ -6,7 +6,7 @@ ghost use Rattle.std.specs.Prelude.{◌≡◌, ◌<◌, ◌≤◌, ◌%◌, ◌^
 ghost use Rattle.mot_base.specs.Limits.{most_parties, most_width, most_gates, session_count};
 ghost use Rattle.mot_base.specs.Tape.{shares_of_tape};
 ghost use Rattle.share_types.specs.Sums.{RecombinesByXor, each, xor_to};
-ghost use Rattle.boolean_gmw.specs.Shares.{flipped_share, opened_left, opened_right, closed_share};
+ghost use Rattle.boolean_gmw.specs.Shares.{triple_of, flipped_share, opened_left, opened_right, closed_share};
 ghost use Rattle.boolean_gmw.specs.Sharing.{low_word, given_word, own_word, share_given};
 
 use mot_base::{MAX_PARTIES, MAX_WIDTH, NoMemory, Party, Seed, tape_shares};
@@ -124,8 +124,8 @@ pub fn xor_const(me: Party, x: Bits, c: Bits) -> Bits
 pub fn and_open(x: Bits, y: Bits, t: BitTriple) -> (Bits, Bits)
     requires left { t.a.width ≡ x.width }
     requires right { y.width ≡ x.width }
-    ensures left { result.0.word ≡ opened_left x.word t }
-    ensures right { result.1.word ≡ opened_right y.word t }
+    ensures left { result.0.word ≡ opened_left x.word (triple_of t) }
+    ensures right { result.1.word ≡ opened_right y.word (triple_of t) }
     ensures left_width { result.0.width ≡ x.width }
     ensures right_width { result.1.width ≡ x.width }
 {
@@ -137,7 +137,7 @@ pub fn and_open(x: Bits, y: Bits, t: BitTriple) -> (Bits, Bits)
 pub fn and_close(me: Party, t: BitTriple, d: Bits, e: Bits) -> Bits
     requires d { d.width ≡ t.a.width }
     requires e { e.width ≡ t.a.width }
-    ensures word { result.word ≡ closed_share me.0 t d.word e.word }
+    ensures word { result.word ≡ closed_share me.0 (triple_of t) d.word e.word }
     ensures width { result.width ≡ t.a.width }
 {
     let share = t.c.xor(d.and(t.b)).xor(e.and(t.a));

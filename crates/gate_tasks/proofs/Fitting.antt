@@ -9,7 +9,8 @@ use Rattle.message_demux.specs.Slots.{vector_bytes, overflows, has_high_bits}
 use Rattle.message_demux.specs.Slots as slots
 use Rattle.plan_gates.specs.declared.message.Message.{Message}
 use Rattle.plan_gates.specs.Gate.{Kind, Gate, width_at, InA, MulA, OutA, InB, AndB, OutB}
-use Rattle.plan_gates.specs.Plan.{Gates, Sizes, sizes_of}
+use Rattle.plan_gates.specs.declared.draft.Sizes.{Sizes}
+use Rattle.plan_gates.specs.Plan.{Gates, sizes_of}
 use Rattle.plan_gates.specs.Messages.{words, vectors, messages_of, message, are_two}
 use Rattle.share_types.specs.Wires.{includes}
 use Rattle.plan_gates.proofs.MessageLemmas.{gate_there}

@@ -1,9 +1,7 @@
 pub mod Causal
 pub mod Unique
 pub mod Bytes
-pub mod Sums
 pub mod Grown
-pub mod Xors
 pub mod Triples
 pub mod Sharing
 pub mod JointRun

@@ -32,7 +32,8 @@ use Rattle.gate_tasks.proofs.Grown.{got, there_is, grown-get}
 use Rattle.gate_tasks.proofs.Lengths.{turned}
 use Rattle.gate_tasks.proofs.Sharing.{choose, short_vector, and_small, join_small, vector_first, vector_second}
 use Rattle.gate_tasks.proofs.JointRun.{vector_is, sent, wide_is}
-use Rattle.gate_tasks.proofs.Xors.{xor_small}
+use Rattle.boolean_gmw.specs.Shares.{closed_share}
+use Rattle.boolean_gmw.proofs.Xors.{xor_small}
 
 -- ---- the bytes of narrow vectors
 
@@ -177,7 +178,7 @@ module _ (plan : Gates) (owns : List Own) (table : Payloads) (valid : IsPlan pla
   right_small : (g y : ℕ) → AreSmall g (λ p. party.vector (at g p) y) → AreSmall g (λ p. party.right_vector (at g p) y)
   right_small g y small p h = xor_lt (wide g) (party.vector (at g p) y) (party.bits_of (at g p) 1) (small p h) (bits_small g 1 p)
 
-  closed_small : (g d e p : ℕ) → d < 2 ^ wide g → e < 2 ^ wide g → party.closed_vector (at g p) d e < 2 ^ wide g
+  closed_small : (g d e p : ℕ) → d < 2 ^ wide g → e < 2 ^ wide g → closed_share p (party.bit_triple (at g p)) d e < 2 ^ wide g
   closed_small g d e p d_small e_small =
       let w = wide g in
       let a = party.bits_of (at g p) 0 in

@@ -5,7 +5,8 @@ use Rattle.std.specs.List.{AllByRecursion}
 use Rattle.std.specs.Option.{unwrap_or}
 use Rattle.share_types.specs.declared.bits.Bits.{Bits}
 use Rattle.plan_gates.specs.Gate.{Kind, Gate, Given, Use, Word, Vector, width_at, gives, uses, operands, MulA, SliceB, JoinB, AndB}
-use Rattle.plan_gates.specs.Plan.{Gates, IsPlan, IsOperand, FitWidths, Sizes, sizes_of}
+use Rattle.plan_gates.specs.declared.draft.Sizes.{Sizes}
+use Rattle.plan_gates.specs.Plan.{Gates, IsPlan, IsOperand, FitWidths, sizes_of}
 use Rattle.plan_gates.specs.Needs.{offset, needs_at, needs_there, needs_of}
 use Rattle.mot_base.proofs.Lists.{all_at, mapped_at, inside_of, same_some, mapped_some}
 use Rattle.plan_gates.proofs.MessageLemmas.{gate_there}

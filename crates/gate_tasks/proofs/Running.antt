@@ -7,7 +7,8 @@ use Rattle.std.specs.Option.{unwrap_or}
 use Rattle.share_types.specs.Sums.{each}
 use Rattle.plan_gates.specs.declared.message.Message.{Message}
 use Rattle.plan_gates.specs.Gate.{Kind, Gate, InA, MulA, OutA, InB, AndB, OutB, operands}
-use Rattle.plan_gates.specs.Plan.{Gates, IsPlan, Sizes, sizes_of}
+use Rattle.plan_gates.specs.declared.draft.Sizes.{Sizes}
+use Rattle.plan_gates.specs.Plan.{Gates, IsPlan, sizes_of}
 use Rattle.plan_gates.specs.Messages.{message, messages_of, messages_at, are_two, hears, rounds, stages, awaits}
 use Rattle.plan_gates.proofs.MessageLemmas.{heard_is}
 use Rattle.gate_tasks.specs.Party.{Own, Value, Told, Payload, Hand, Rounds, word_share, vector_share, silence, sends_at, gate_sends, gate_value, round_sends, value_at, WordShare, VectorShare, kept_word, kept_vector, width}

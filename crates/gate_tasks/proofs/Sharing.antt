@@ -18,29 +18,6 @@ use Rattle.gate_tasks.proofs.Sums.{sum_mod, sum_plus, sum_times, sum_public}
 pub two : (n p q : ℕ) → p < n → q < n → (p ≡ q → ⊥) → are_two n p q ≡ true
 two n p q a b apart = rw (lt-ltb p n a, lt-ltb q n b, ne_eqb p q apart) refl
 
--- ---- sums of shares
-
-pub sum_added : (n : ℕ) (f g : ℕ → ℕ) (a b : ℕ) → sum_to n f % 2 ^ 64 ≡ a % 2 ^ 64 → sum_to n g % 2 ^ 64 ≡ b % 2 ^ 64 →
-    sum_to n (λ p. word_sum (f p) (g p)) % 2 ^ 64 ≡ (a + b) % 2 ^ 64
-sum_added n f g a b left right =
-    let same = sum_mod n (λ p. word_sum (f p) (g p)) (λ p. f p + g p) (λ p h. omega arith) in
-    let split = sum_plus n f g in
-    omega (arith, left, right, same, split)
-
-pub sum_subtracted : (n : ℕ) (f g : ℕ → ℕ) (a b : ℕ) → sum_to n f % 2 ^ 64 ≡ a % 2 ^ 64 → sum_to n g % 2 ^ 64 ≡ b % 2 ^ 64 →
-    sum_to n (λ p. word_difference (f p) (g p)) % 2 ^ 64 ≡ word_difference a b % 2 ^ 64
-sum_subtracted n f g a b left right =
-    let same = sum_mod n (λ p. word_difference (f p) (g p) + g p) f (λ p h. omega arith) in
-    let split = sum_plus n (λ p. word_difference (f p) (g p)) g in
-    omega (arith, left, right, same, split)
-
-pub sum_scaled : (n : ℕ) (f : ℕ → ℕ) (a c : ℕ) → sum_to n f % 2 ^ 64 ≡ a % 2 ^ 64 →
-    sum_to n (λ p. word_product (f p) c) % 2 ^ 64 ≡ (a * c) % 2 ^ 64
-sum_scaled n f a c left =
-    sum_mod n (λ p. word_product (f p) c) (λ p. f p * c) (λ p h. omega arith)
-    ∙ (ap (λ s. s % 2 ^ 64) (sum_times n f c)
-    ∙ (mul-mod (sum_to n f) c (2 ^ 64) ∙ (ap (λ m. (m * (c % 2 ^ 64)) % 2 ^ 64) left ∙ sym (mul-mod a c (2 ^ 64)))))
-
 pub word_first : (x : ℕ) (ws : List ℕ) → word_in (word_bytes (x ∷ ws)) 0 ≡ x % 2 ^ 64
 word_first x ws = payloads_read_back.0 (x ∷ ws) 0 x refl
 
@@ -106,13 +83,6 @@ join_small u v a b p q =
     let room : 2 ^ u * suc b ≤ 2 ^ u * 2 ^ v = mul-le-mul_left (2 ^ u) q in
     let next : 2 ^ u * suc b ≡ 2 ^ u * b + 2 ^ u = mul-suc (2 ^ u) b in
     omega (arith, p, split, room, next)
-
-pub and_closed : (m : ℕ) (a b c : ℕ → ℕ) (x y : ℕ) → 0 < m → xor_to m c ≡ bit_and (xor_to m a) (xor_to m b) →
-    xor_to m (λ p. bit_xor (bit_xor (bit_xor (c p) (bit_and (bit_xor x (xor_to m a)) (b p))) (bit_and (bit_xor y (xor_to m b)) (a p)))
-    (part_of_public p (bit_and (bit_xor x (xor_to m a)) (bit_xor y (xor_to m b)))))
-    ≡ bit_and x y
-and_closed zero a b c x y h honest = absurd (omega (arith, h))
-and_closed (suc m) a b c x y h honest = and_closes m a b c x y honest
 
 pub public_xor : (m c : ℕ) → 0 < m → xor_to m (λ p. part_of_public p c) ≡ c
 public_xor zero c h = absurd (omega (arith, h))

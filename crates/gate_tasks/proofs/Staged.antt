@@ -5,12 +5,13 @@ use Rattle.std.proofs.lemmas.Bool.{eqb-true, eqb-false, eq-eqb, ne_eqb}
 use Rattle.share_types.specs.Sums.{total, xor_total, sum_to, xor_to, each, word_sum, word_difference, word_product, part_of_public}
 use Rattle.share_types.proofs.Parties.{sum_to_same, xor_to_same}
 use Rattle.arithmetic_gmw.specs.Shares as arithmetic
+use Rattle.boolean_gmw.specs.Shares as boolean
 use Rattle.plan_gates.specs.Gate.{Kind, Gate, InA, ConstA, AddA, SubA, AddConstA, MulConstA, MulA, OutA, InB, ConstB, XorB, XorConstB, SliceB, JoinB, AndB, OutB, operands, party_of, width_at}
 use Rattle.plan_gates.specs.Plan.{Gates, IsPlan}
 use Rattle.plan_gates.specs.Messages.{hears, rounds}
 use Rattle.share_types.specs.Wires.{includes}
 use Rattle.gate_tasks.specs.Payload.{word_bytes, word_in, vectors_bytes, vector_in}
-use Rattle.gate_tasks.specs.Party.{Own, Value, WordShare, VectorShare, Told, Payload, Hand, Rounds, hand, word, vector, width, triple, bits_of, given_word, given_vector, kept_word, kept_vector, closed_vector, opened_word, opened_vector, left_word, right_word, left_vector, right_vector, gate_value, gate_sends, silence}
+use Rattle.gate_tasks.specs.Party.{Own, Value, WordShare, VectorShare, Told, Payload, Hand, Rounds, hand, word, vector, width, triple, bit_triple, given_word, given_vector, kept_word, kept_vector, opened_word, opened_vector, left_word, right_word, left_vector, right_vector, gate_value, gate_sends, silence}
 use Rattle.gate_tasks.specs.Stage.{senders}
 use Rattle.gate_tasks.specs.ByValue.{word_at, vector_at, opened_words, opened_vectors, formed, given_out, value_from, hears_at, is_owned}
 use Rattle.gate_tasks.specs.declared.value.Value.{Value as ValueInMemory}
@@ -146,9 +147,9 @@ module _ (plan : Gates) (me g : ℕ) (own : Own) (before : List Value) (got : Ro
     value_is (JoinB x y) of agree hears = ap₂ (λ a b. VectorShare (a + 2 ^ width_at plan.gates x * b)) (agree 0 x refl).1 (agree 1 y refl).1
     value_is (AndB x y) of agree hears =
         let are = all_heard (AndB x y) of (λ q. refl) (hears refl) in
-        ap₂ (λ d e. VectorShare (closed_vector h d e))
-        (ap (λ a. opened_vectors (width h) (bit_xor a (bits_of h 0)) 0 heard) (agree 0 x refl).1 ∙ vectors_opened (left_vector h x) 0 inside are)
-        (ap (λ a. opened_vectors (width h) (bit_xor a (bits_of h 1)) 1 heard) (agree 1 y refl).1 ∙ vectors_opened (right_vector h y) 1 inside are)
+        ap₂ (λ d e. VectorShare (boolean.closed_share me (bit_triple h) d e))
+        (ap (λ a. opened_vectors (width h) (boolean.opened_left a (bit_triple h)) 0 heard) (agree 0 x refl).1 ∙ vectors_opened (left_vector h x) 0 inside are)
+        (ap (λ a. opened_vectors (width h) (boolean.opened_right a (bit_triple h)) 1 heard) (agree 1 y refl).1 ∙ vectors_opened (right_vector h y) 1 inside are)
     value_is (OutB x to) of agree hears = by (includes to me) refl
       where
         by : (b : Bool) → includes to me ≡ b → value_from (OutB x to) h0 wires heard ≡ gate_value (OutB x to) h got
@@ -174,7 +175,7 @@ module _ (plan : Gates) (me g : ℕ) (own : Own) (before : List Value) (got : Ro
       ap (λ a. word_bytes (a ∷ [])) (agree 0 x refl).0 ∙ sym (ap (λ b. cond b (word_bytes (word h x ∷ [])) []) e)
   formed_is (InB party k at) rounds to agree other e = let owned = turned party me ∙ e in let contrary = sym other ∙ owned in cc
   formed_is (AndB x y) rounds to agree other e =
-      ap₂ (λ a b. vectors_bytes (width h) (bit_xor a (bits_of h 0) ∷ bit_xor b (bits_of h 1) ∷ [])) (agree 0 x refl).1 (agree 1 y refl).1
+      ap₂ (λ a b. vectors_bytes (width h) (boolean.opened_left a (bit_triple h) ∷ boolean.opened_right b (bit_triple h) ∷ [])) (agree 0 x refl).1 (agree 1 y refl).1
   formed_is (OutB x receiver) rounds to agree other e =
       ap (λ a. vectors_bytes (width h) (a ∷ [])) (agree 0 x refl).1 ∙ sym (ap (λ b. cond b (vectors_bytes (width h) (vector h x ∷ [])) []) e)
   formed_is _ rounds to agree other e = cc

@@ -8,7 +8,7 @@ use Rattle.share_types.specs.Sums.{xor_to}
 use Rattle.share_types.proofs.Parties.{xor_to_same}
 use Rattle.dealer_files.specs.Records.{vector_of}
 use Rattle.dealer_files.proofs.Vectors.{vector-cons}
-use Rattle.gate_tasks.proofs.Xors.{xor_join, xor_small}
+use Rattle.boolean_gmw.proofs.Xors.{xor_join, xor_small}
 
 vector-nil : (bit : ℕ) → vector_of bit [] ≡ 0
 unfolding vector_of

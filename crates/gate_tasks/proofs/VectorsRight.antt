@@ -20,8 +20,10 @@ use Rattle.gate_tasks.specs.Payload.{vectors_bytes, vector_in}
 use Rattle.std.proofs.Math.Nat.{mod-eq_of_lt, mod-lt}
 use Rattle.std.proofs.lemmas.Nat.{xor_lt, pow_pos}
 use Rattle.share_types.proofs.Parties.{xor_to_same}
-use Rattle.boolean_gmw.proofs.Recombining.{undone}
-use Rattle.gate_tasks.proofs.Xors.{one_apart as xor_apart, xor_small, xor_plus, xor_slice, xor_join, opened_xor}
+use Rattle.boolean_gmw.specs.Shares.{closed_share}
+use Rattle.boolean_gmw.proofs.Xors.{undone}
+use Rattle.boolean_gmw.proofs.Recombining.{xor-recombines, flipped-recombines, slice-recombines, join-recombines, and-recombines}
+use Rattle.boolean_gmw.proofs.Xors.{one_apart as xor_apart, xor_small, xor_plus, xor_slice, xor_join, opened_xor}
 use Rattle.gate_tasks.proofs.Triples.{vectors_at, triples_vector}
 use Rattle.std.specs.Int.{bit_at}
 use Rattle.dealer_files.specs.Records.{vector_of}
@@ -219,7 +221,7 @@ module _ (plan : Gates) (owns : List Own) (bases : Needs) (session : ℕ) (outsi
 
   -- what a party closes an AND with, where d and e were opened
   abbrev closed_bits : ℕ → ℕ → ℕ → ℕ → ℕ
-  closed_bits g d e p = party.closed_vector (at g p) d e
+  closed_bits g d e p = closed_share p (party.bit_triple (at g p)) d e
 
   closed_small : (g d e p : ℕ) → d < 2 ^ wide g → e < 2 ^ wide g → closed_bits g d e p < 2 ^ wide g
   closed_small g d e p d_small e_small =
@@ -240,18 +242,14 @@ module _ (plan : Gates) (owns : List Own) (bases : Needs) (session : ℕ) (outsi
   and_right g x y width vx vy found is_x small_x is_y small_y =
       let d = xor_to n (left_bits g x) in
       let e = xor_to n (right_bits g y) in
-      let d_is : d ≡ bit_xor vx (xor_to n (λ p. party.bits_of (at g p) 0)) =
-      xor_plus n (λ p. party.vector (at g p) x) (λ p. party.bits_of (at g p) 0) ∙ ap (λ v. bit_xor v (xor_to n (λ p. party.bits_of (at g p) 0))) is_x in
-      let e_is : e ≡ bit_xor vy (xor_to n (λ p. party.bits_of (at g p) 1)) =
-      xor_plus n (λ p. party.vector (at g p) y) (λ p. party.bits_of (at g p) 1) ∙ ap (λ v. bit_xor v (xor_to n (λ p. party.bits_of (at g p) 1))) is_y in
       let d_small = xor_small n (wide g) (left_bits g x) (left_bits_small g x small_x) in
       let e_small = xor_small n (wide g) (right_bits g y) (right_bits_small g y small_y) in
       let closes : (p : ℕ) → p < n → party.conjunction (at g p) x y (λ q. table g 0 q p) ≡ closed_bits g d e p =
-      λ p h. ap₂ (party.closed_vector (at g p)) (opened_left_bits g x y width p h found small_x) (opened_right_bits g x y width p h found small_y) in
+      λ p h. ap₂ (closed_share p (party.bit_triple (at g p))) (opened_left_bits g x y width p h found small_x) (opened_right_bits g x y width p h found small_y) in
       within (wide g) (λ p. party.conjunction (at g p) x y (λ q. table g 0 q p)) (bit_and vx vy)
       (xor_to_same n (λ p. party.conjunction (at g p) x y (λ q. table g 0 q p)) (closed_bits g d e) closes
-      ∙ (ap₂ (λ s t. xor_to n (closed_bits g s t)) d_is e_is
-      ∙ and_closed n (λ p. party.bits_of (at g p) 0) (λ p. party.bits_of (at g p) 1) (λ p. party.bits_of (at g p) 2) vx vy positive (triples_xor g x y width found)))
+      ∙ and-recombines n (λ p. party.vector (at g p) x) (λ p. party.vector (at g p) y) (λ p. party.bit_triple (at g p)) vx vy d e positive
+      (triples_xor g x y width found) is_x is_y refl refl)
       (λ p h. subst (λ s. s < 2 ^ wide g) (sym (closes p h)) (closed_small g d e p d_small e_small))
 
   -- ---- all gates over vectors
@@ -276,17 +274,17 @@ module _ (plan : Gates) (owns : List Own) (bases : Needs) (session : ℕ) (outsi
       let (is_x, small_x) = fitting g x width (XorB x y) ih found is.uses.0 is.fit.0 in
       let (is_y, small_y) = fitting g y width (XorB x y) ih found is.uses.1.0 is.fit.1.0 in
       within (wide g) (λ p. bit_xor (party.vector (at g p) x) (party.vector (at g p) y)) (bit_xor (slice_index (plain g) x) (slice_index (plain g) y))
-      (xor_plus n (λ p. party.vector (at g p) x) (λ p. party.vector (at g p) y) ∙ ap₂ bit_xor is_x is_y)
+      (xor-recombines n (λ p. party.vector (at g p) x) (λ p. party.vector (at g p) y) (slice_index (plain g) x) (slice_index (plain g) y) is_x is_y)
       (λ p h. xor_lt (wide g) (party.vector (at g p) x) (party.vector (at g p) y) (small_x p h) (small_y p h))
   vector_right g (XorConstB x c) width ih found is vector =
       let (is_x, small_x) = fitting g x width (XorConstB x c) ih found is.uses.0 is.fit.0 in
       let c_small : c < 2 ^ wide g = subst (λ w. c < 2 ^ w) (sym (wide_is plan g (record { kind = XorConstB x c; width = width }) found)) is.small in
       within (wide g) (λ p. bit_xor (party.vector (at g p) x) (part_of_public p c)) (bit_xor (slice_index (plain g) x) c)
-      (xor_plus n (λ p. party.vector (at g p) x) (λ p. part_of_public p c) ∙ ap₂ bit_xor is_x (public_xor n c positive))
+      (flipped-recombines n (λ p. party.vector (at g p) x) (slice_index (plain g) x) c positive is_x)
       (λ p h. xor_lt (wide g) (party.vector (at g p) x) (part_of_public p c) (small_x p h) (choose (wide g) (nat_eq p 0) c 0 c_small (pow_pos (wide g))))
   vector_right g (SliceB x low) width ih found is vector =
       let (is_x, small_x) = vector_operand g x ih is.uses.0 in (
-        xor_slice n low (wide g) (λ p. party.vector (at g p) x) ∙ ap (λ v. v / 2 ^ low % 2 ^ wide g) is_x,
+        slice-recombines n (λ p. party.vector (at g p) x) (slice_index (plain g) x) low (wide g) is_x,
         λ p h. mod-lt (party.vector (at g p) x / 2 ^ low) (pow_pos (wide g)),
       )
   vector_right g (JoinB x y) width ih found is vector =
@@ -295,7 +293,7 @@ module _ (plan : Gates) (owns : List Own) (bases : Needs) (session : ℕ) (outsi
       let both : wide g ≡ wide x + wide y =
       wide_is plan g (record { kind = JoinB x y; width = width }) found ∙ is.fit in
       within (wide g) (λ p. party.vector (at g p) x + 2 ^ wide x * party.vector (at g p) y) (slice_index (plain g) x + 2 ^ wide x * slice_index (plain g) y)
-      (xor_join n (wide x) (λ p. party.vector (at g p) x) (λ p. party.vector (at g p) y) small_x ∙ ap₂ (λ u v. u + 2 ^ wide x * v) is_x is_y)
+      (join-recombines n (λ p. party.vector (at g p) x) (λ p. party.vector (at g p) y) (slice_index (plain g) x) (slice_index (plain g) y) (wide x) small_x is_x is_y)
       (λ p h. subst (λ w. party.vector (at g p) x + 2 ^ wide x * party.vector (at g p) y < 2 ^ w) (sym both)
       (join_small (wide x) (wide y) (party.vector (at g p) x) (party.vector (at g p) y) (small_x p h) (small_y p h)))
   vector_right g (AndB x y) width ih found is vector =

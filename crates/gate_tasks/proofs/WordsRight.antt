@@ -18,13 +18,13 @@ use Rattle.share_types.specs.declared.records.MultTriple.{MultTriple}
 use Rattle.share_types.specs.declared.needs.Kind.TheVariants.{Mult}
 use Rattle.arithmetic_gmw.specs.Shares.{closed_share, opened_left, opened_right}
 use Rattle.arithmetic_gmw.specs.Laws.{Factors, IsTriple}
-use Rattle.arithmetic_gmw.proofs.Recombining.{product-recombines}
+use Rattle.arithmetic_gmw.proofs.Recombining.{sum-recombines, difference-recombines, scaled-recombines, raised-recombines, product-recombines}
 use Rattle.dealer_files.specs.Part.{Part}
 use Rattle.plan_gates.specs.Needs.{offset, needs_at, needs_there}
 use Rattle.plan_gates.proofs.NeedsLemmas.{records_never_meet}
 use Rattle.gate_tasks.specs.Payload.{word_bytes, word_in}
 use Rattle.gate_tasks.proofs.Causal.{strong}
-use Rattle.gate_tasks.proofs.Sums.{sum_mod, one_apart, opened_sum}
+use Rattle.arithmetic_gmw.proofs.Sums.{sum_mod, one_apart, opened_sum}
 use Rattle.gate_tasks.proofs.Grown.{got_index, grown-get, map_map, total_is}
 use Rattle.gate_tasks.proofs.Sharing.{sum_added, sum_subtracted, sum_scaled, word_first, word_second, back, found_inside, public, cut}
 use Rattle.gate_tasks.proofs.JointRun.{word_is, sent, wide_is}
@@ -170,26 +170,7 @@ module _ (plan : Gates) (owns : List Own) (bases : Needs) (session : ℕ) (outsi
       (λ q b apart. ap (λ bytes. word_in bytes 1 % 2 ^ 64) (factors_sent g x y width p q a b apart found)
       ∙ (ap (λ w. w % 2 ^ 64) (word_second (left g x q) (right g y q) []) ∙ omega arith))
 
-  abbrev factor : ℕ → ℕ → ℕ → ℕ → Factors
-  factor g x y p = record { left = party.word (at g p) x; right = party.word (at g p) y; triple = triple_of g p }
-
-  recombining : (g x y v : ℕ) (F : Factors → ℕ) → sum_to n (λ p. F (factor g x y p)) % 2 ^ 64 ≡ v % 2 ^ 64 →
-      Recombines (map F (each n (factor g x y))) v
-  recombining g x y v F is =
-      ap (λ s. s % 2 ^ 64) (ap total (map-each F n (factor g x y)) ∙ total-each n (λ p. F (factor g x y p))) ∙ is
-
-  triples_list : (g x y width : ℕ) → slice_get plan.gates g ≡ Some (record { kind = MulA x y; width = width }) →
-      IsTriple (map (λ f. f.triple) (each n (factor g x y)))
-  triples_list g x y width found =
-      let listed : map (λ (f : Factors). f.triple) (each n (factor g x y)) ≡ each n (triple_of g) = map-each (λ (f : Factors). f.triple) n (factor g x y) in
-      subst IsTriple (sym listed)
-      (ap (λ s. s % 2 ^ 64) (summed (λ t. t.c))
-      ∙ (triples_right g x y width found ∙ sym (ap₂ (λ s t. (s * t) % 2 ^ 64) (summed (λ t. t.a)) (summed (λ t. t.b)))))
-    where
-      summed : (F : MultTriple → ℕ) → total (map F (each n (triple_of g))) ≡ sum_to n (λ p. F (triple_of g p))
-      summed F = ap total (map-each F n (triple_of g)) ∙ total-each n (λ p. F (triple_of g p))
-
-  -- the opened differences
+  -- what was opened of all
   abbrev opened_d : ℕ → ℕ → ℕ
   opened_d g x = sum_to n (left g x) % 2 ^ 64
 
@@ -202,12 +183,9 @@ module _ (plan : Gates) (owns : List Own) (bases : Needs) (session : ℕ) (outsi
   product_right g x y width vx vy found is_x is_y =
       ap (λ s. s % 2 ^ 64)
       (sum_to_same n (λ p. party.product (at g p) x y (λ q. table g 0 q p)) (λ p. closed_share p (triple_of g p) (opened_d g x) (opened_e g y))
-      (λ p h. ap₂ (closed_share p (triple_of g p)) (opened_left_is g x y width p h found) (opened_right_is g x y width p h found))
-      ∙ sym (ap total (by_party-each (λ me (f : Factors). closed_share me f.triple (opened_d g x) (opened_e g y)) n (factor g x y)) ∙ total-each n (λ p. closed_share p (triple_of g p) (opened_d g x) (opened_e g y))))
-      ∙ product-recombines (each n (factor g x y)) vx vy (opened_d g x) (opened_e g y) (triples_list g x y width found)
-      (recombining g x y vx (λ f. f.left) is_x) (recombining g x y vy (λ f. f.right) is_y)
-      (recombining g x y (opened_d g x) (λ f. opened_left f.left f.triple) (omega arith))
-      (recombining g x y (opened_e g y) (λ f. opened_right f.right f.triple) (omega arith))
+      (λ p h. ap₂ (closed_share p (triple_of g p)) (opened_left_is g x y width p h found) (opened_right_is g x y width p h found)))
+      ∙ product-recombines n (λ p. party.word (at g p) x) (λ p. party.word (at g p) y) (triple_of g) vx vy (opened_d g x) (opened_e g y)
+      (triples_right g x y width found) is_x is_y (omega arith) (omega arith)
 
   -- ---- all gates over words
 
@@ -218,13 +196,13 @@ module _ (plan : Gates) (owns : List Own) (bases : Needs) (session : ℕ) (outsi
   kind_right g (InA owner k) width ih found is word = input_right g k owner width is.party found
   kind_right g (ConstA c) width ih found is word = ap (λ s. s % 2 ^ 64) (public n c positive)
   kind_right g (AddA x y) width ih found is word =
-      sum_added n (λ p. party.word (at g p) x) (λ p. party.word (at g p) y) (slice_index (plain g) x) (slice_index (plain g) y) (operand g x ih is.uses.0) (operand g y ih is.uses.1.0)
+      sum-recombines n (λ p. party.word (at g p) x) (λ p. party.word (at g p) y) (slice_index (plain g) x) (slice_index (plain g) y) (operand g x ih is.uses.0) (operand g y ih is.uses.1.0)
   kind_right g (SubA x y) width ih found is word =
-      sum_subtracted n (λ p. party.word (at g p) x) (λ p. party.word (at g p) y) (slice_index (plain g) x) (slice_index (plain g) y) (operand g x ih is.uses.0) (operand g y ih is.uses.1.0)
+      difference-recombines n (λ p. party.word (at g p) x) (λ p. party.word (at g p) y) (slice_index (plain g) x) (slice_index (plain g) y) (operand g x ih is.uses.0) (operand g y ih is.uses.1.0)
   kind_right g (AddConstA x c) width ih found is word =
-      sum_added n (λ p. party.word (at g p) x) (λ p. part_of_public p c) (slice_index (plain g) x) c (operand g x ih is.uses.0) (ap (λ s. s % 2 ^ 64) (public n c positive))
+      raised-recombines n (λ p. party.word (at g p) x) (slice_index (plain g) x) c positive (operand g x ih is.uses.0)
   kind_right g (MulConstA x c) width ih found is word =
-      sum_scaled n (λ p. party.word (at g p) x) (slice_index (plain g) x) c (operand g x ih is.uses.0)
+      scaled-recombines n (λ p. party.word (at g p) x) (slice_index (plain g) x) c (operand g x ih is.uses.0)
   kind_right g (MulA x y) width ih found is word =
       product_right g x y width (slice_index (plain g) x) (slice_index (plain g) y) found (operand g x ih is.uses.0) (operand g y ih is.uses.1.0)
   kind_right g (OutA x to) width ih found is word = cc

@@ -2,11 +2,12 @@
 use Rattle.std.specs.Prelude.{ℕ, ◌≡◌, IfSome, Bool, true, false, not, ◌+◌, ◌*◌, ◌/◌, ◌%◌, ◌^◌, ◌==◌, List, [], ◌∷◌, map, get_or, slice_get, Option, Some, None, option_map, if◌then◌else◌, bit_xor}
 use Rattle.share_types.specs.Sums.{word_sum, word_difference, word_product, part_of_public, total, xor_total}
 use Rattle.arithmetic_gmw.specs.Shares as arithmetic
+use Rattle.boolean_gmw.specs.Shares as boolean
 use Rattle.plan_gates.specs.Gate.{Kind, Given, InA, ConstA, AddA, SubA, AddConstA, MulConstA, MulA, OutA, InB, ConstB, XorB, XorConstB, SliceB, JoinB, AndB, OutB, Word, Vector, uses, gives, width_at}
 use Rattle.plan_gates.specs.Gate as plan
 use Rattle.share_types.specs.Wires.{includes}
 use Rattle.gate_tasks.specs.Payload.{word_bytes, word_in, vectors_bytes, vector_in}
-use Rattle.gate_tasks.specs.Party.{Value, WordShare, VectorShare, Told, Payload, Hand, word_share, vector_share, width, triple, bits_of, given_word, given_vector, kept_word, kept_vector, closed_vector}
+use Rattle.gate_tasks.specs.Party.{Value, WordShare, VectorShare, Told, Payload, Hand, word_share, vector_share, width, triple, bit_triple, given_word, given_vector, kept_word, kept_vector}
 use Rattle.gate_tasks.specs.Stage.{value_of, kind_at, hand_in}
 use Rattle.gate_tasks.specs.declared.own.StageEnv.{StageEnv}
 use Rattle.gate_tasks.specs.declared.value.Value.{Value as ValueInMemory}
@@ -40,7 +41,7 @@ opening h wires =
 abbrev pub opening_of_bits : Hand → List ValueInMemory → Payload
 opening_of_bits h wires =
     vectors_bytes (width h)
-    (bit_xor (vector_at wires 0) (bits_of h 0) ∷ bit_xor (vector_at wires 1) (bits_of h 1) ∷ [])
+    (boolean.opened_left (vector_at wires 0) (bit_triple h) ∷ boolean.opened_right (vector_at wires 1) (bit_triple h) ∷ [])
 
 -- the payload that a party sends to all receivers, where the gate is no input
 abbrev pub formed : Kind → Hand → List ValueInMemory → Payload
@@ -66,16 +67,16 @@ product_of h wires heard =
 
 abbrev pub conjunction_of : Hand → List ValueInMemory → List Payload → ℕ
 conjunction_of h wires heard =
-    closed_vector h
-    (opened_vectors (width h) (bit_xor (vector_at wires 0) (bits_of h 0)) 0 heard)
-    (opened_vectors (width h) (bit_xor (vector_at wires 1) (bits_of h 1)) 1 heard)
+    boolean.closed_share h.me (bit_triple h)
+    (opened_vectors (width h) (boolean.opened_left (vector_at wires 0) (bit_triple h)) 0 heard)
+    (opened_vectors (width h) (boolean.opened_right (vector_at wires 1) (bit_triple h)) 1 heard)
 
 abbrev pub value_from : Kind → Hand → List ValueInMemory → List Payload → Value
 value_from (InA party k) h wires heard = WordShare (if party == h.me then kept_word h k else word_in (heard_at heard 0) 0)
 value_from (ConstA c) h wires heard = WordShare (part_of_public h.me c)
 value_from (AddA x y) h wires heard = WordShare (word_sum (word_at wires 0) (word_at wires 1))
 value_from (SubA x y) h wires heard = WordShare (word_difference (word_at wires 0) (word_at wires 1))
-value_from (AddConstA x c) h wires heard = WordShare (word_sum (word_at wires 0) (part_of_public h.me c))
+value_from (AddConstA x c) h wires heard = WordShare (arithmetic.raised_share h.me (word_at wires 0) c)
 value_from (MulConstA x c) h wires heard = WordShare (word_product (word_at wires 0) c)
 value_from (MulA x y) h wires heard = WordShare (product_of h wires heard)
 value_from (OutA x to) h wires heard =
@@ -84,7 +85,7 @@ value_from (InB party k at) h wires heard =
     VectorShare (if party == h.me then kept_vector h k at else vector_in (width h) (heard_at heard 0) 0)
 value_from (ConstB c) h wires heard = VectorShare (part_of_public h.me c)
 value_from (XorB x y) h wires heard = VectorShare (bit_xor (vector_at wires 0) (vector_at wires 1))
-value_from (XorConstB x c) h wires heard = VectorShare (bit_xor (vector_at wires 0) (part_of_public h.me c))
+value_from (XorConstB x c) h wires heard = VectorShare (boolean.flipped_share h.me (vector_at wires 0) c)
 value_from (SliceB x at) h wires heard = VectorShare (vector_at wires 0 / 2 ^ at % 2 ^ width h)
 value_from (JoinB x y) h wires heard =
     VectorShare (vector_at wires 0 + 2 ^ width_at h.plan.gates x * vector_at wires 1)

@@ -1,11 +1,12 @@
 -- What a party makes of its own data and of what it is sent: for each kind of gate the party's value, and what it sends.
-use Rattle.std.specs.Prelude.{ℕ, zero, suc, ◌+◌, ◌*◌, ◌/◌, ◌%◌, ◌^◌, Bool, ◌==◌, nat_lt, List, [], ◌∷◌, ◌++◌, take, drop, slice_get, get_or, Option, Some, None, if◌then◌else◌, bit_and, bit_xor}
+use Rattle.std.specs.Prelude.{ℕ, zero, suc, ◌+◌, ◌*◌, ◌/◌, ◌%◌, ◌^◌, Bool, ◌==◌, nat_lt, List, [], ◌∷◌, ◌++◌, take, drop, slice_get, get_or, Option, Some, None, if◌then◌else◌, bit_xor}
 use Rattle.mot_base.specs.Tape.{share_of_tape}
 use Rattle.share_types.specs.declared.needs.Needs.{Needs}
 use Rattle.share_types.specs.declared.records.MultTriple.{MultTriple}
 use Rattle.share_types.specs.Bits.{number}
 use Rattle.share_types.specs.Sums.{word_sum, word_difference, word_product, part_of_public, sum_to, xor_to}
 use Rattle.arithmetic_gmw.specs.Shares as arithmetic
+use Rattle.boolean_gmw.specs.Shares as boolean
 use Rattle.dealer_files.specs.Part.{Part}
 use Rattle.dealer_files.specs.Records.{vector_of}
 use Rattle.plan_gates.specs.Gate.{Kind, Gate, InA, ConstA, AddA, SubA, AddConstA, MulConstA, MulA, OutA, InB, ConstB, XorB, XorConstB, SliceB, JoinB, AndB, OutB, width_at}
@@ -133,21 +134,19 @@ product h x y heard =
 abbrev pub bits_of : Hand → ℕ → ℕ
 bits_of h bit = vector_of bit (take (width h) (drop (first h).bit h.own.part.bits))
 
+abbrev pub bit_triple : Hand → boolean.Triple
+bit_triple h = record { a = bits_of h 0; b = bits_of h 1; c = bits_of h 2 }
+
 abbrev pub left_vector : Hand → ℕ → ℕ
-left_vector h x = bit_xor (vector h x) (bits_of h 0)
+left_vector h x = boolean.opened_left (vector h x) (bit_triple h)
 
 abbrev pub right_vector : Hand → ℕ → ℕ
-right_vector h y = bit_xor (vector h y) (bits_of h 1)
-
-abbrev pub closed_vector : Hand → ℕ → ℕ → ℕ
-closed_vector h d e =
-    bit_xor
-    (bit_xor (bit_xor (bits_of h 2) (bit_and d (bits_of h 1))) (bit_and e (bits_of h 0)))
-    (part_of_public h.me (bit_and d e))
+right_vector h y = boolean.opened_right (vector h y) (bit_triple h)
 
 abbrev pub conjunction : Hand → ℕ → ℕ → Heard → ℕ
 conjunction h x y heard =
-    closed_vector h (opened_vector h (left_vector h x) heard 0) (opened_vector h (right_vector h y) heard 1)
+    boolean.closed_share h.me (bit_triple h) (opened_vector h (left_vector h x) heard 0)
+    (opened_vector h (right_vector h y) heard 1)
 
 -- ---- the equations
 
@@ -157,7 +156,7 @@ gate_value (InA party k) h got = WordShare (if party == h.me then kept_word h k 
 gate_value (ConstA c) h got = WordShare (part_of_public h.me c)
 gate_value (AddA x y) h got = WordShare (word_sum (word h x) (word h y))
 gate_value (SubA x y) h got = WordShare (word_difference (word h x) (word h y))
-gate_value (AddConstA x c) h got = WordShare (word_sum (word h x) (part_of_public h.me c))
+gate_value (AddConstA x c) h got = WordShare (arithmetic.raised_share h.me (word h x) c)
 gate_value (MulConstA x c) h got = WordShare (word_product (word h x) c)
 gate_value (MulA x y) h got = WordShare (product h x y (got 0))
 gate_value (OutA x to) h got = Told (if includes to h.me then Some (opened_word h (word h x) (got 0) 0) else None)
@@ -165,7 +164,7 @@ gate_value (InB party k at) h got =
     VectorShare (if party == h.me then kept_vector h k at else vector_in (width h) (got 0 party) 0)
 gate_value (ConstB c) h got = VectorShare (part_of_public h.me c)
 gate_value (XorB x y) h got = VectorShare (bit_xor (vector h x) (vector h y))
-gate_value (XorConstB x c) h got = VectorShare (bit_xor (vector h x) (part_of_public h.me c))
+gate_value (XorConstB x c) h got = VectorShare (boolean.flipped_share h.me (vector h x) c)
 gate_value (SliceB x at) h got = VectorShare (vector h x / 2 ^ at % 2 ^ width h)
 gate_value (JoinB x y) h got = VectorShare (vector h x + 2 ^ width_at h.plan.gates x * vector h y)
 gate_value (AndB x y) h got = VectorShare (conjunction h x y (got 0))

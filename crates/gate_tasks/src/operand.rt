@@ -2,8 +2,9 @@
 
 ghost use Rattle.std.specs.Prelude.{◌≡◌, ℕ, true, slice_get, Some};
 ghost use Rattle.plan_gates.specs.Gate.{Word, Vector, width_at};
+ghost use Rattle.boolean_gmw.specs.Shares.{triple_of};
 ghost use Rattle.plan_gates.specs.Plan.{IsPlan};
-ghost use Rattle.gate_tasks.specs.Party.{triple, bits_of, width};
+ghost use Rattle.gate_tasks.specs.Party.{triple, bit_triple, width};
 ghost use Rattle.gate_tasks.specs.Stage.{Serves, AreOperands, operands_of};
 ghost use Rattle.gate_tasks.specs.ByValue.{kind_in, stand, taken_at, keeps_width, is_product, is_conjunction, word_at, vector_at};
 
@@ -56,9 +57,7 @@ pub(crate) fn bit_triple(env: &StageEnv) -> BitTriple
     requires plan { IsPlan env.now.plan.now }
     requires serves { Serves env.now.plan.now env.now.own.now env.now.part.now env.now.gate }
     requires conjunction { is_conjunction (kind_in env.now) ≡ true }
-    ensures a { result.a.word ≡ bits_of (stand env.now) 0 }
-    ensures b { result.b.word ≡ bits_of (stand env.now) 1 }
-    ensures c { result.c.word ≡ bits_of (stand env.now) 2 }
+    ensures triple { triple_of result ≡ bit_triple (stand env.now) }
     ensures width { result.a.width ≡ width (stand env.now) }
 {
     env.part.is_part();

@@ -16,7 +16,7 @@ use Rattle.message_demux.specs.declared.slots.Shape.TheVariants.{Words, Vectors}
 use Rattle.message_demux.specs.Slots.{vector_bytes, vectors, overflows, has_high_bits}
 use Rattle.plan_gates.specs.Gate.{Kind, InA, ConstA, AddA, SubA, AddConstA, MulConstA, MulA, OutA, InB, ConstB, XorB, XorConstB, SliceB, JoinB, AndB, OutB}
 use Rattle.plan_gates.specs.declared.message.Message.{Message as Sent}
-use Rattle.plan_gates.specs.Plan.{Sizes}
+use Rattle.plan_gates.specs.declared.draft.Sizes.{Sizes}
 use Rattle.plan_gates.specs.Messages.{messages_of}
 use Rattle.share_types.specs.Wires.{includes}
 use Rattle.gate_tasks.specs.Party.{Hand, Rounds, vector, width, given_word, bits_of, left_vector, right_vector, given_vector, gate_sends, silence, first}

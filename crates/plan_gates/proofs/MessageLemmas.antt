@@ -1,5 +1,5 @@
 -- The messages of gates: which rounds there are, who hears, and how long payloads are.
-use Rattle.std.proofs.Common.{ℕ, zero, suc, ◌≡◌, ◌<◌, ◌≤◌, ◌+◌, ◌*◌, Bool, true, false, cond, ◌||◌, List, [], ◌∷◌, length, take, filter, Option, Some, None, inl, inr, refl, sym, ◌∙◌, ap, ap₂, subst, arith}
+use Rattle.std.proofs.Common.{ℕ, zero, suc, ◌≡◌, ◌<◌, ◌≤◌, ◌+◌, ◌*◌, Bool, true, false, cond, ◌||◌, List, [], ◌∷◌, ◌++◌, length, take, filter, Option, Some, None, inl, inr, refl, sym, ◌∙◌, ap, ap₂, subst, arith, suc-mul}
 use Rattle.std.specs.Prelude.{slice_get, is_some, option_map, nat_lt}
 use Rattle.std.specs.List.{list_any}
 use Rattle.std.specs.Option.{unwrap_or}
@@ -13,7 +13,8 @@ use Rattle.message_demux.specs.Slots.{IsShapeOf, vector_bytes}
 use Rattle.mot_base.proofs.Lists.{same_some, take_next, inside_of, before_at, last_at}
 use Rattle.plan_gates.specs.declared.message.Message.{Message}
 use Rattle.plan_gates.specs.Gate.{Kind, Gate, InA, ConstA, AddA, SubA, AddConstA, MulConstA, MulA, OutA, InB, ConstB, XorB, XorConstB, SliceB, JoinB, AndB, OutB}
-use Rattle.plan_gates.specs.Plan.{Gates, Sizes, sizes_of}
+use Rattle.plan_gates.specs.declared.draft.Sizes.{Sizes}
+use Rattle.plan_gates.specs.Plan.{Gates, sizes_of}
 use Rattle.plan_gates.specs.Messages.{words, vectors, messages_of, messages_at, message, are_two, hears, rounds, heard_rounds, GatesHaveOneRound}
 
 -- ---- all parties, one after another
@@ -155,12 +156,12 @@ sent_parts parties from to o m e = first (nat_lt from parties) refl e
     first true t e = (ltb-true _ _ t, second (are_two parties from to) e)
     first false t e = let none : are_two parties from to ≡ false = rw t refl in let contrary = rw none at e in cc
 
-pub record IsSent (plan : Gates) (from to g round : ℕ) (m : Message) : Type 0 where
-  pub round : round < rounds plan g
+pub record IsSent (plan : Gates) (from g r : ℕ) : Type 0 where
+  pub round : r < rounds plan g
   pub sender : from < plan.parties
   pub gate : g < length plan.gates
 
-pub is_sent : (plan : Gates) (from to g round : ℕ) (m : Message) → message plan from to g round ≡ Some m → IsSent plan from to g round m
+pub is_sent : (plan : Gates) (from to g round : ℕ) (m : Message) → message plan from to g round ≡ Some m → IsSent plan from g round
 is_sent plan from to g round m e =
     let parts = sent_parts plan.parties from to (unwrap_or (slice_get (messages_at plan (slice_get plan.gates g) from to) round) None) m e in
     record { round = in_rounds plan g from to round m parts.1; sender = parts.0; gate = within (slice_get plan.gates g) refl parts.1 }
@@ -222,10 +223,7 @@ few_vectors count width some few wide narrow =
 
     times_most : (a b : ℕ) → b ≤ 8 → a * b ≤ a * 8
     times_most zero b h = omega arith
-    times_most (suc a) b h = let rest = times_most a b h in let one = suc_times a b in let other = suc_times a 8 in omega arith
-
-    suc_times : (a b : ℕ) → suc a * b ≡ a * b + b
-    suc_times a b = suc-mul a b
+    times_most (suc a) b h = let rest = times_most a b h in let one = suc-mul a b in omega arith
 
 one_entry : (b : Bool) (given m : Message) (round : ℕ) → Fits given →
     unwrap_or (slice_get (cond b (Some given) None ∷ []) round) None ≡ Some m → Fits m

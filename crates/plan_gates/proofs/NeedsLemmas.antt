@@ -13,7 +13,8 @@ use Rattle.mot_base.proofs.Lists.{before_at, last_at}
 use Rattle.share_types.proofs.Parties.{length-each}
 use Rattle.plan_gates.specs.Gate as plan
 use Rattle.plan_gates.specs.Gate.{Gate}
-use Rattle.plan_gates.specs.Plan.{Gates, Sizes, sizes_of, IsPlan}
+use Rattle.plan_gates.specs.declared.draft.Sizes.{Sizes}
+use Rattle.plan_gates.specs.Plan.{Gates, sizes_of, IsPlan}
 use Rattle.plan_gates.specs.Needs.{needs_of, needs_there, needs_at, offset, RecordsNeverMeet}
 
 -- what the parties below a number have, at a place

@@ -262,7 +262,7 @@ has_gate plan to from (suc n) g round m h r e = elim (cases_lt g n) [
       (has_round plan to from g (rounds plan g) round m r e)))
 ]
 
-has_sender : (plan : Gates) (to n from g round : ℕ) (m : Message) → from < n → IsSent plan from to g round m →
+has_sender : (plan : Gates) (to n from g round : ℕ) (m : Message) → from < n → IsSent plan from g round →
     message plan from to g round ≡ Some m → Has (slots_before plan to n) (spec_of from g round m)
 has_sender plan to zero from g round m h is e = absurd (omega arith)
 has_sender plan to (suc n) from g round m h is e = elim (cases_lt from n) [

@@ -10,7 +10,8 @@ use Rattle.message_demux.specs.declared.slots.Shape.TheVariants.{Words, Vectors}
 use Rattle.message_demux.specs.Slots.{listed, slot_at, vector_bytes, IsSlotList}
 use Rattle.plan_gates.specs.declared.message.Message.{Message}
 use Rattle.plan_gates.specs.Gate.{Kind, Gate, InA, MulA, OutA, InB, AndB, OutB, receiver_of}
-use Rattle.plan_gates.specs.Plan.{Gates, Sizes, sizes_of}
+use Rattle.plan_gates.specs.declared.draft.Sizes.{Sizes}
+use Rattle.plan_gates.specs.Plan.{Gates, sizes_of}
 
 -- so many words of 8 bytes, and so many vectors of a width
 abbrev pub words : ℕ → Message

@@ -5,7 +5,8 @@ use Rattle.share_types.specs.declared.needs.Kind as stock
 use Rattle.share_types.specs.Needs.{count_of, no_needs, sum_of_needs}
 use Rattle.share_types.specs.Sums.{each}
 use Rattle.plan_gates.specs.Gate.{Kind, Gate, MulA, AndB}
-use Rattle.plan_gates.specs.Plan.{Gates, Sizes, sizes_of}
+use Rattle.plan_gates.specs.declared.draft.Sizes.{Sizes}
+use Rattle.plan_gates.specs.Plan.{Gates, sizes_of}
 
 -- what a gate needs: one triple for a product, and a bit triple for each bit of an AND
 abbrev pub needs_of : Kind → Sizes → Needs

@@ -2,6 +2,7 @@
 use Rattle.std.specs.Prelude.{ℕ, ◌≡◌, ◌<◌, ◌≤◌, ◌+◌, ◌^◌, List, [], ◌∷◌, ◌++◌, length, map, slice_get, Some, IfSome}
 use Rattle.std.specs.List.{AllByRecursion}
 use Rattle.mot_base.specs.Limits.{least_parties, most_parties, most_width, most_gates}
+use Rattle.plan_gates.specs.declared.draft.Sizes.{Sizes}
 use Rattle.plan_gates.specs.Gate.{Kind, Gate, Given, Use, Word, SliceB, JoinB, gives, uses, operands, party_of, constant_of, width_at, low_width}
 
 -- the gates that so many parties run, of which each stands behind those whose values it uses
@@ -9,13 +10,7 @@ pub record Gates : Type 0 where
   pub parties : ℕ
   pub gates : List Gate
 
--- on what a gate's needs and messages hang beside its kind: how many parties there are, and the widths of the gate's value
--- and of its first operand's
-pub record Sizes : Type 0 where
-  pub parties : ℕ
-  pub width : ℕ
-  pub low : ℕ
-
+-- on what a gate's needs and messages hang beside its kind
 abbrev pub sizes_of : Gates → Gate → Sizes
 sizes_of plan gate = record { parties = plan.parties; width = gate.width; low = low_width plan.gates gate.kind }
 

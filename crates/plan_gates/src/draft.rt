@@ -31,7 +31,7 @@ impl Model for Gate {
 /// On what a gate's needs and messages hang beside its kind: how many parties there are, and the widths of the gate's
 /// value and of its first operand's, which is 0 without one.
 #[derive(Clone, Copy, Debug)]
-pub(crate) struct Sizes {
+pub struct Sizes {
     pub parties: u8,
     pub width: u8,
     pub low: u8,

@@ -1,4 +1,4 @@
-ghost use Rattle.std.specs.Prelude.{◌≡◌, None};
+ghost use Rattle.std.specs.Prelude.{◌≡◌, None, slice_get};
 ghost use Rattle.plan_gates.specs.Gate.{kind_of, operands, receiver_of};
 ghost use Rattle.plan_gates.specs.Operands.{listed};
 
@@ -103,7 +103,8 @@ pub struct Operands {
 impl GateKind {
     /// The gates whose values a gate uses.
     pub fn operands(self) -> Operands
-        ensures { listed result ≡ operands (kind_of self) }
+        ensures all { listed result ≡ operands (kind_of self) }
+        ensures first { result.first ≡ slice_get (operands (kind_of self)) 0 }
     {
         match self {
             GateKind::AddA { x, y }

@@ -48,7 +48,7 @@ pub fn tells(kind: GateKind, party: Party) -> bool
 
 /// How many rounds of messages a gate has, at most three.
 pub fn rounds_of(kind: GateKind, sizes: Sizes) -> u8
-    ensures { result ≡ length (messages_of (kind_of kind) sizes 0 0) }
+    ensures value { result ≡ length (messages_of (kind_of kind) sizes 0 0) }
     ensures few { result ≤ 3 }
 {
     match kind {

@@ -8,9 +8,16 @@ use Rattle.std.proofs.Math.Dec.{eqb-suc-zero}
 use Rattle.std.proofs.Math.Nat.{zero-div, zero-mod}
 use Rattle.std.proofs.lemmas.Nat.{xor_comm, xor_shr, xor_mod, xor_block, xor_lt, and_comm, pow_pos}
 use Rattle.std.proofs.lemmas.Nat.Bits.{bit_at_xor, bit_at_and, bit_at-lt, same_from_bits}
-use Rattle.boolean_gmw.proofs.Recombining.{exchange, undone}
 use Rattle.share_types.specs.Sums.{part_of_public, xor_to}
 use Rattle.share_types.proofs.Parties.{xor_to_same}
+
+-- (a xor b) xor (c xor d) ≡ (a xor c) xor (b xor d)
+pub exchange : (a b c d : ℕ) → bit_xor (bit_xor a b) (bit_xor c d) ≡ bit_xor (bit_xor a c) (bit_xor b d)
+exchange a b c d = same_from_bits _ _ (λ i. simp bit_at_xor (omega arith))
+
+-- what is added once more is gone
+pub undone : (x a : ℕ) → bit_xor (bit_xor x a) a ≡ x
+undone x a = same_from_bits _ _ (λ i. simp bit_at_xor (let small = bit_at-lt x i in let other = bit_at-lt a i in omega arith))
 
 pub xor_zero_r : (x : ℕ) → bit_xor x 0 ≡ x
 xor_zero_r x = xor_comm x 0 ∙ xor_zero_l x
@@ -100,32 +107,3 @@ opened_xor n me part vector heard = xor_to_same n (λ q. if q == me then part me
     at : (q : ℕ) → q < n → (b : Bool) → (q == me) ≡ b → cond b (part me) (vector q) ≡ part q
     at q h true e = ap part (sym (eqb-true q me e))
     at q h false e = heard q h (eqb-false q me e)
-
--- ---- ANDs
-
-ring_bit : (a b d e : ℕ) → a < 2 → b < 2 → d < 2 → e < 2 →
-    (((min a b + min d b) % 2 + min e a) % 2 + min d e) % 2 ≡ min ((d + a) % 2) ((e + b) % 2)
-ring_bit a b d e p q r s = omega arith
-
-ring : (a b d e : ℕ) →
-    bit_xor (bit_xor (bit_xor (bit_and a b) (bit_and d b)) (bit_and e a)) (bit_and d e) ≡ bit_and (bit_xor d a) (bit_xor e b)
-ring a b d e = same_from_bits _ _ (λ i. simp (bit_at_xor, bit_at_and)
-    (ring_bit (bit_at a i) (bit_at b i) (bit_at d i) (bit_at e i) (bit_at-lt a i) (bit_at-lt b i) (bit_at-lt d i) (bit_at-lt e i)))
-
--- what parties close with over the opened d = x xor a and e = y xor b are shares of the AND of x and y
-pub and_closes : (n : ℕ) (a b c : ℕ → ℕ) (x y : ℕ) →
-    xor_to (suc n) c ≡ bit_and (xor_to (suc n) a) (xor_to (suc n) b) →
-    xor_to (suc n) (λ p. bit_xor (bit_xor (bit_xor (c p) (bit_and (bit_xor x (xor_to (suc n) a)) (b p))) (bit_and (bit_xor y (xor_to (suc n) b)) (a p)))
-    (part_of_public p (bit_and (bit_xor x (xor_to (suc n) a)) (bit_xor y (xor_to (suc n) b)))))
-    ≡ bit_and x y
-and_closes n a b c x y honest =
-    let A = xor_to (suc n) a in
-    let B = xor_to (suc n) b in
-    let d = bit_xor x A in
-    let e = bit_xor y B in
-    xor_plus (suc n) (λ p. bit_xor (bit_xor (c p) (bit_and d (b p))) (bit_and e (a p))) (λ p. part_of_public p (bit_and d e))
-    ∙ (ap₂ bit_xor
-    (xor_plus (suc n) (λ p. bit_xor (c p) (bit_and d (b p))) (λ p. bit_and e (a p))
-    ∙ ap₂ bit_xor (xor_plus (suc n) c (λ p. bit_and d (b p)) ∙ ap₂ bit_xor honest (xor_and (suc n) d b)) (xor_and (suc n) e a))
-    (xor_public n (bit_and d e))
-    ∙ (ring A B d e ∙ ap₂ bit_and (undone x A) (undone y B)))

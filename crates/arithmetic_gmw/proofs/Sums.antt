@@ -22,7 +22,7 @@ pub sum_times : (n : ℕ) (f : ℕ → ℕ) (c : ℕ) → sum_to n (λ p. f p * 
 sum_times zero f c = omega arith
 sum_times (suc n) f c = let before = sum_times n f c in omega (arith, before)
 
-none_of_public : (n c : ℕ) → part_of_public (suc n) c ≡ 0
+pub none_of_public : (n c : ℕ) → part_of_public (suc n) c ≡ 0
 none_of_public n c = rw eqb-suc-zero refl
 
 -- party 0 alone has a public number

@@ -1,0 +1,8 @@
+use Rattle.std.proofs.Common.{◌≡◌, ◌≤◌, ◌+◌, length}
+use Rattle.plan_gates.specs.Messages.{hears}
+use Rattle.plan_gates.proofs.MessageLemmas.{passing}
+use Rattle.plan_gates.proofs.plan.Plan.stages.Given as goal
+
+abbrev pub invariant-loop-round : goal.invariant-loop-round
+invariant-loop-round l =
+    (l.stages ≡ 1 + length (passing (hears l.self l.party.0 l.gate) l.round)) × (l.stages ≤ 1 + l.round)
