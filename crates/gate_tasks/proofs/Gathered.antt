@@ -13,6 +13,7 @@ use Rattle.std.specs.Prelude.{IfSome}
 use Rattle.message_demux.specs.Fit.{Fits}
 use Rattle.message_demux.specs.Kept.{InboxContents}
 use Rattle.plan_gates.specs.Plan.{Gates}
+use Rattle.plan_gates.specs.Messages.{message}
 use Rattle.gate_tasks.specs.Task.{option_list, KeptFit, slot_from}
 use Rattle.gate_tasks.proofs.Grown.{some_is}
 use Rattle.gate_tasks.proofs.Hearing.{filter_next}
@@ -78,6 +79,10 @@ gathered_more f q n e =
     ap (flat_map f) (one_more q n e)
     ∙ (flat_map-append f (filter q (each n (λ k. k))) (n ∷ []) ∙ ap (λ xs. flat_map f (filter q (each n (λ k. k))) ++ xs) (nothing_more (f n)))
 
+pub gathered_none : {X : Type 0} (f : ℕ → List X) (q : ℕ → Bool) (n : ℕ) → q n ≡ false →
+    flat_map f (filter q (each (n + 1) (λ k. k))) ≡ flat_map f (filter q (each n (λ k. k)))
+gathered_none f q n e = ap (flat_map f) (one_not q n e)
+
 pub mapped_some : {X Y : Type 0} (f : X → Y) (o : Option X) → is_some (option_map f o) ≡ is_some o
 mapped_some f None = refl
 mapped_some f (Some x) = refl
@@ -139,3 +144,16 @@ fit_more plan me inbox g round n before here from h sent = elim (cases_lt from n
       (let last : n ≡ from = omega (arith, h, large) in
       subst (λ k. IfSome (map.get inbox.kept (slot_from g round k)) (Fits inbox.slots (slot_from g round k))) last here)
 ]
+
+pub fit_none : (plan : Gates) (me : ℕ) (inbox : InboxContents) (g round n : ℕ) → KeptFit plan me inbox g round n →
+    is_some (message plan n me g round) ≡ false → KeptFit plan me inbox g round (n + 1)
+fit_none plan me inbox g round n before none from h sent = elim (cases_lt from n) as (λ _. IfSome (map.get inbox.kept (slot_from g round from)) (Fits inbox.slots (slot_from g round from))) [
+  | inl small ↦ before from small sent
+  | inr large ↦
+      (let last : n ≡ from = omega (arith, h, large) in
+      absurd (never (is_some (message plan from me g round)) sent (ap (λ k. is_some (message plan k me g round)) (sym last) ∙ none)))
+]
+  where
+    never : (b : Bool) → b ≡ true → b ≡ false → ⊥
+    never true e f = cc
+    never false e f = cc

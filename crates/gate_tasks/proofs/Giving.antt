@@ -17,7 +17,7 @@ use Rattle.gate_tasks.specs.Party.{Payload}
 use Rattle.gate_tasks.specs.Sending.{outs_by, out_by}
 use Rattle.gate_tasks.specs.declared.own.StageEnv.{StageEnv}
 use Rattle.gate_tasks.proofs.Grown.{some_is, got, total_is, grown-get}
-use Rattle.gate_tasks.proofs.Sums.{one_apart}
+use Rattle.arithmetic_gmw.proofs.Sums.{one_apart}
 use Rattle.gate_tasks.proofs.Hearing.{filter_next}
 
 -- ---- what goes to each receiver

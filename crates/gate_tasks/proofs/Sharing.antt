@@ -7,13 +7,13 @@ use Rattle.share_types.specs.Sums.{word_sum, word_difference, word_product, part
 use Rattle.plan_gates.specs.Messages.{are_two}
 use Rattle.gate_tasks.specs.Payload.{word_bytes, word_in, vectors_bytes, vector_in}
 use Rattle.std.proofs.Math.Nat.{mul-suc, mul-le-mul_left}
-use Rattle.gate_tasks.proofs.Xors.{xor_public, and_closes}
+use Rattle.boolean_gmw.proofs.Xors.{xor_public}
 use Rattle.std.proofs.Math.Pow.{pow_mono}
 use Rattle.std.specs.Int.Bits.{xor_assoc}
 use Rattle.dealer_files.specs.Records.{vector_of}
 use Rattle.dealer_files.proofs.Vectors.{vector-small}
 use Rattle.gate_tasks.proofs.Bytes.{payloads_read_back}
-use Rattle.gate_tasks.proofs.Sums.{sum_mod, sum_plus, sum_times, sum_public}
+use Rattle.arithmetic_gmw.proofs.Sums.{sum_public}
 
 pub two : (n p q : ℕ) → p < n → q < n → (p ≡ q → ⊥) → are_two n p q ≡ true
 two n p q a b apart = rw (lt-ltb p n a, lt-ltb q n b, ne_eqb p q apart) refl

@@ -16,8 +16,8 @@ use Rattle.gate_tasks.specs.Stage.{senders}
 use Rattle.gate_tasks.specs.ByValue.{word_at, vector_at, opened_words, opened_vectors, formed, given_out, value_from, hears_at, is_owned}
 use Rattle.gate_tasks.specs.declared.value.Value.{Value as ValueInMemory}
 use Rattle.gate_tasks.proofs.Grown.{map_map}
-use Rattle.gate_tasks.proofs.Sums.{one_apart}
-use Rattle.gate_tasks.proofs.Xors.{one_apart as xor_apart}
+use Rattle.arithmetic_gmw.proofs.Sums.{one_apart}
+use Rattle.boolean_gmw.proofs.Xors.{one_apart as xor_apart}
 use Rattle.gate_tasks.proofs.Hearing.{sends, sum_filtered, xor_filtered, senders_all, senders_one}
 
 -- ---- opened values

@@ -30,7 +30,7 @@ use Rattle.dealer_files.specs.Records.{vector_of}
 use Rattle.share_types.specs.declared.needs.Kind.TheVariants.{Bit}
 use Rattle.gate_tasks.proofs.Causal.{strong}
 use Rattle.gate_tasks.proofs.Grown.{got_index, grown-get, map_map}
-use Rattle.gate_tasks.proofs.Sharing.{found_inside, vector_first, vector_second, choose, xor_total_is, length_mapped, get_or_mapped, short_vector, and_small, join_small, and_closed, public_xor}
+use Rattle.gate_tasks.proofs.Sharing.{found_inside, vector_first, vector_second, choose, xor_total_is, length_mapped, get_or_mapped, short_vector, and_small, join_small, public_xor}
 use Rattle.gate_tasks.proofs.JointRun.{vector_is, sent, wide_is}
 
 module _ (plan : Gates) (owns : List Own) (bases : Needs) (session : ℕ) (outside : Outside) (table : Payloads)

@@ -17,7 +17,6 @@ use Rattle.gate_tasks.specs.Honest.{own_at, nobody, AreHonest, AreInputs}
 use Rattle.share_types.specs.declared.records.MultTriple.{MultTriple}
 use Rattle.share_types.specs.declared.needs.Kind.TheVariants.{Mult}
 use Rattle.arithmetic_gmw.specs.Shares.{closed_share, opened_left, opened_right}
-use Rattle.arithmetic_gmw.specs.Laws.{Factors, IsTriple}
 use Rattle.arithmetic_gmw.proofs.Recombining.{sum-recombines, difference-recombines, scaled-recombines, raised-recombines, product-recombines}
 use Rattle.dealer_files.specs.Part.{Part}
 use Rattle.plan_gates.specs.Needs.{offset, needs_at, needs_there}
@@ -26,7 +25,7 @@ use Rattle.gate_tasks.specs.Payload.{word_bytes, word_in}
 use Rattle.gate_tasks.proofs.Causal.{strong}
 use Rattle.arithmetic_gmw.proofs.Sums.{sum_mod, one_apart, opened_sum}
 use Rattle.gate_tasks.proofs.Grown.{got_index, grown-get, map_map, total_is}
-use Rattle.gate_tasks.proofs.Sharing.{sum_added, sum_subtracted, sum_scaled, word_first, word_second, back, found_inside, public, cut}
+use Rattle.gate_tasks.proofs.Sharing.{word_first, word_second, back, found_inside, public, cut}
 use Rattle.gate_tasks.proofs.JointRun.{word_is, sent, wide_is}
 
 module _ (plan : Gates) (owns : List Own) (bases : Needs) (session : ℕ) (outside : Outside) (table : Payloads)
