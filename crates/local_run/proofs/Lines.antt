@@ -20,7 +20,7 @@ use Rattle.plan_gates.proofs.SlotLemmas.{message_fits}
 use Rattle.gate_tasks.specs.declared.value.Value.{Value as ValueInMemory}
 use Rattle.gate_tasks.specs.declared.value.Value.TheVariants as value
 use Rattle.gate_tasks.specs.Party as party
-use Rattle.gate_tasks.specs.Party.{Own, Payload, Hand, Rounds, hand_at, share, opened_word, opened_vector, gate_value, value_at, party_value}
+use Rattle.gate_tasks.specs.Party.{Own, Payload, Hand, Rounds, hand_at, word, vector, opened_word, opened_vector, gate_value, value_at, party_value}
 use Rattle.gate_tasks.specs.Joint.{Payloads, column, IsJoint}
 use Rattle.gate_tasks.specs.Honest.{own_at}
 use Rattle.gate_tasks.specs.Stage.{value_of, receivers, IsOf, HasShape}
@@ -128,22 +128,15 @@ part_of R plan n p start cs less at are =
 
 -- a gate that tells a party its value gives it a number
 told_kind : (kind : Kind) (w : ℕ) (h : Hand) (got : Rounds) → tells h.me (record { kind = kind; width = w }) ≡ true → (x : ℕ) × (gate_value kind h got ≡ party.Told (Some x))
-told_kind (OutA x to) w h got yes_told = (opened_word h (share h x) (got 0) 0, ap (λ (b : Bool). party.Told (cond b (Some (opened_word h (share h x) (got 0) 0)) None)) yes_told)
-told_kind (OutB x to) w h got yes_told = (opened_vector h (share h x) (got 0) 0, ap (λ (b : Bool). party.Told (cond b (Some (opened_vector h (share h x) (got 0) 0)) None)) yes_told)
-told_kind (InA party k) w h got yes_told = absurd (false≢true yes_told)
-told_kind (ConstA c) w h got yes_told = absurd (false≢true yes_told)
-told_kind (AddA x y) w h got yes_told = absurd (false≢true yes_told)
-told_kind (SubA x y) w h got yes_told = absurd (false≢true yes_told)
-told_kind (AddConstA x c) w h got yes_told = absurd (false≢true yes_told)
-told_kind (MulConstA x c) w h got yes_told = absurd (false≢true yes_told)
-told_kind (MulA x y) w h got yes_told = absurd (false≢true yes_told)
-told_kind (InB party k at) w h got yes_told = absurd (false≢true yes_told)
-told_kind (ConstB c) w h got yes_told = absurd (false≢true yes_told)
-told_kind (XorB x y) w h got yes_told = absurd (false≢true yes_told)
-told_kind (XorConstB x c) w h got yes_told = absurd (false≢true yes_told)
-told_kind (SliceB x at) w h got yes_told = absurd (false≢true yes_told)
-told_kind (JoinB x y) w h got yes_told = absurd (false≢true yes_told)
-told_kind (AndB x y) w h got yes_told = absurd (false≢true yes_told)
+told_kind (OutA x to) w h got yes_told = (
+  opened_word h (word h x) (got 0) 0,
+  ap (λ (b : Bool). party.Told (cond b (Some (opened_word h (word h x) (got 0) 0)) None)) yes_told,
+)
+told_kind (OutB x to) w h got yes_told = (
+  opened_vector h (vector h x) (got 0) 0,
+  ap (λ (b : Bool). party.Told (cond b (Some (opened_vector h (vector h x) (got 0) 0)) None)) yes_told,
+)
+told_kind _ w h got yes_told = absurd (false≢true yes_told)
 
 told_value : (o : Option Gate) (h : Hand) (got : Rounds) → tells_at o h.me ≡ true → (x : ℕ) × (value_at o h got ≡ party.Told (Some x))
 told_value None h got told = absurd (false≢true told)
