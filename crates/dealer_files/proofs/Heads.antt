@@ -66,7 +66,7 @@ passed bytes e =
       within = is-le _ _ counts.1;
     }
 
-drop-small : (n : ℕ) (bytes : List ℕ) → IsBytes bytes → IsBytes (drop n bytes)
+pub drop-small : (n : ℕ) (bytes : List ℕ) → IsBytes bytes → IsBytes (drop n bytes)
 drop-small n bytes h i = rw get_or-drop (h (n + i))
 
 count-at : (k : ℕ) (bytes : List ℕ) → IsBytes bytes → k + 4 ≤ length bytes →

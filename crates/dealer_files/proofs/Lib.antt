@@ -1,8 +1,11 @@
+pub mod Decided
 pub mod Files
+pub mod Garbling
 pub mod Heads
 pub mod Parted
 pub mod Pieces
 pub mod Places
 pub mod Spelled
+pub mod Told
 pub mod Vectors
 pub mod Whole

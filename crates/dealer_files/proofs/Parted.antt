@@ -78,7 +78,7 @@ key-same : (k l : Key) → k.0 < 2 ^ 128 → l.0 < 2 ^ 128 → key_bytes k ≡ k
 key-same k l p q e = let n = number-same k.0 l.0 p q e in λ i. record { 0 = n i }
 
 -- as many keys as parties, of 128 bits each
-abbrev KeysFit : ℕ → KeyBit → Type 0
+abbrev pub KeysFit : ℕ → KeyBit → Type 0
 KeysFit parties k = (length k.times ≡ parties) × KeyBitFits k
 
 key_bit-same : (parties : ℕ) (k l : KeyBit) → KeysFit parties k → KeysFit parties l →

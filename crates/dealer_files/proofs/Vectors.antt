@@ -11,7 +11,7 @@ use Rattle.share_types.specs.Bits.{once}
 use Rattle.share_types.proofs.BitsLemmas.{number-below}
 use Rattle.dealer_files.specs.Records.{vector_of}
 
-once-bit : (n : ℕ) → n < 2 → once (n == 1) ≡ n
+pub once-bit : (n : ℕ) → n < 2 → once (n == 1) ≡ n
 once-bit n h = grind (arith, nat_tests)
 
 pub vector-cons : (bit r : ℕ) (rs : List ℕ) → vector_of bit (r ∷ rs) ≡ 2 * vector_of bit rs + bit_at r bit

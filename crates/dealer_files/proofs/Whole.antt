@@ -263,7 +263,7 @@ no-records-fault p part OffsetEven w = w
 no-records-fault p part Counts w = w
 no-records-fault p part NoMemory w = w
 
-none-is : (fault : DealerError) (x : Option DealerError) → x ≡ None → x ≡ Some fault → ⊥
+pub none-is : (fault : DealerError) (x : Option DealerError) → x ≡ None → x ≡ Some fault → ⊥
 none-is fault x e f = absurd cc
 
 pub no-fault : FileHasNoFault

@@ -1,5 +1,5 @@
 -- What files, parts and faults have to do with one another.
-use Rattle.std.specs.Prelude.{◌≡◌, ℕ, ◌<◌, ◌^◌, List, All}
+use Rattle.std.specs.Prelude.{◌≡◌, ℕ, ◌<◌, ◌^◌, ◌⊎◌, List, All}
 use Rattle.share_types.specs.declared.records.MultTriple.{MultTriple}
 use Rattle.share_types.specs.declared.records.SharedBit.{SharedBit}
 use Rattle.share_types.specs.declared.records.KeyBit.{KeyBit}
@@ -34,3 +34,13 @@ FileHasNoFault = (bytes : List ℕ) (p : Part) (fault : DealerError) → IsFile 
 abbrev pub FileIsOfOnePart : Type 0
 FileIsOfOnePart =
     (bytes : List ℕ) (p q : Part) → IsOfNumbers p → IsOfNumbers q → IsFile bytes p → IsFile bytes q → p ≡ q
+
+-- of a list of bytes exactly one is the case: it is the file of one part, or shows one first fault
+pub record FileOrFault (bytes : List ℕ) : Type 0 where
+  pub some : ((p : Part) × IsOfNumbers p × IsFile bytes p) ⊎ ((fault : DealerError) × IsFirstFault bytes fault)
+  pub not_both : (p : Part) (fault : DealerError) → IsFile bytes p → IsFirstFault bytes fault → ⊥
+  pub one_part : (p q : Part) → IsOfNumbers p → IsOfNumbers q → IsFile bytes p → IsFile bytes q → p ≡ q
+  pub one_fault : (fault other : DealerError) → IsFirstFault bytes fault → IsFirstFault bytes other → fault ≡ other
+
+abbrev pub EachIsFileOrFaults : Type 0
+EachIsFileOrFaults = (bytes : List ℕ) → All (λ byte. byte < 256) bytes → FileOrFault bytes

@@ -1,5 +1,6 @@
 pub mod Checks
 pub mod File
+pub mod Garbling
 pub mod Honest
 pub mod Laws
 pub mod Part

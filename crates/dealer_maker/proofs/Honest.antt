@@ -1,5 +1,5 @@
 -- What is drawn is honest together.
-use Rattle.std.proofs.Common.{◌≡◌, ℕ, zero, suc, ◌+◌, ◌-◌, ◌*◌, ◌%◌, ◌^◌, ◌<◌, ◌≤◌, false, List, [], ◌∷◌, ◌++◌, map, get_or, All, refl, sym, ap, ap₂, subst, ◌∙◌, arith}
+use Rattle.std.proofs.Common.{◌≡◌, ℕ, zero, suc, ◌+◌, ◌-◌, ◌*◌, ◌%◌, ◌^◌, ◌<◌, ◌≤◌, Bool, true, false, List, [], ◌∷◌, ◌++◌, map, get_or, All, refl, sym, ap, ap₂, subst, ◌∙◌, arith}
 use Rattle.std.specs.Prelude.{◌==◌, nat_eq, if◌then◌else◌, bit_and, bit_xor}
 use Rattle.std.specs.Int.{bit_at}
 use Rattle.std.specs.Int.Bits.{xor_assoc, xor_self, xor_zero_l}
@@ -9,15 +9,15 @@ use Rattle.std.proofs.lemmas.Nat.Bits.{bit_at_xor, bit_at-lt}
 use Rattle.std.proofs.lemmas.Bool.Decides.{nat_tests}
 use Rattle.std.proofs.lemmas.List.FromFn.{map-range_with_len_more, get_or-map-range_with_len, length-map-range_with_len}
 use Rattle.mot_base.specs.Tape.{word_of_tape, long_word_of_tape, key_of_tape}
-use Rattle.share_types.specs.Bits.{once}
+use Rattle.share_types.specs.Bits.{once, differ}
 use Rattle.share_types.specs.Sums.{word_difference, word_product, total, xor_total, sum_to, xor_to, each}
+use Rattle.share_types.specs.Keys.{times, key_at, parity_to, AreSharedBit, AreKeyBit}
 use Rattle.share_types.proofs.Parties.{total-each, xor_total-each, map-each, sum_to_same, xor_to_same}
 use Rattle.share_types.specs.declared.needs.Needs.{Needs}
 use Rattle.share_types.specs.declared.records.MultTriple.{MultTriple}
-use Rattle.share_types.specs.declared.records.SharedBit.{SharedBit}
-use Rattle.share_types.specs.declared.records.KeyBit.{KeyBit}
 use Rattle.dealer_files.specs.Part.{Part, counts_of}
-use Rattle.dealer_files.specs.Honest.{IsMultTriple, IsBitTriple, IsSharedBit, IsKeyBit, HonestTogether, times_bit, key_of_owner}
+use Rattle.dealer_files.specs.Honest.{IsMultTriple, IsBitTriple, HonestTogether}
+use Rattle.dealer_files.proofs.Garbling.{shared_bit_same, key_bit_same}
 use Rattle.dealer_maker.proofs.Drawing.{left_small}
 use Rattle.dealer_maker.proofs.Records.{rows-length, odd}
 use Rattle.dealer_maker.specs.Draws.{rows, word_total, word_xor, key_xor, bit_left, mult_drawn, bit_drawn, shared_drawn, share_drawn, key_drawn, offset_drawn, owner_begin, part_drawn, parts_drawn, mult_words, shared_words, key_words, mult_begin, bit_begin, shared_begin, key_begin}
@@ -123,24 +123,42 @@ mult-honest seed k from =
     ∙ (product-mod (sum_to n (λ q. long_word_of_tape seed (from + 4 * q))) (sum_to n (λ q. long_word_of_tape seed (from + 2 + 4 * q)))
     ∙ ap₂ (λ (x y : ℕ). (x * y) % 2 ^ 64) (sym a) (sym (b ∙ other))))
 
-pub shared-honest : (seed : List ℕ) (k from : ℕ) → IsSharedBit (each (suc k) (λ party. shared_drawn seed (suc k) party from))
+once-differ : (a b : Bool) → once (differ a b) ≡ bit_xor (once a) (once b)
+once-differ true true = refl
+once-differ true false = refl
+once-differ false true = refl
+once-differ false false = refl
+
+parity-once : (n : ℕ) (f : ℕ → Bool) → once (parity_to n f) ≡ xor_to n (λ q. once (f q))
+parity-once zero f = refl
+parity-once (suc n) f = once-differ (parity_to n f) (f n) ∙ ap (λ x. bit_xor x (once (f n))) (parity-once n f)
+
+-- the parties' bits, each the least of a word, differ as the XOR of the words says
+parity-drawn : (n : ℕ) (bits : ℕ → Bool) (word : ℕ → ℕ) → ((q : ℕ) → once (bits q) ≡ bit_at (word q) 0) →
+    once (parity_to n bits) ≡ bit_at (xor_to n word) 0
+parity-drawn n bits word each-one =
+    parity-once n bits
+    ∙ (xor_to_same n (λ q. once (bits q)) (λ q. bit_at (word q) 0) (λ q h. each-one q) ∙ sym (bit-of-xor n 0 word))
+
+small-word : (x : ℕ) → x < 2 → x % 2 ^ 64 ≡ x
+small-word x h = omega arith
+
+pub shared-honest : (seed : List ℕ) (k from : ℕ) → AreSharedBit (suc k) (λ party. shared_drawn seed (suc k) party from)
 unfolding shared_drawn word_total word_xor
 shared-honest seed k from =
     let n = suc k in
     let drawn = λ (party : ℕ). shared_drawn seed n party from in
-    let w = sum-each (λ (t : SharedBit). t.word) n drawn in
-    let x = xor-each (λ (t : SharedBit). once t.bit) n drawn in
+    let word = λ (q : ℕ). word_of_tape seed (from + q) in
     let less : suc k - 1 ≡ k = omega arith in
     let left = λ (q : ℕ). long_word_of_tape seed (from + n + 2 * q) in
-    let bits = xor_to_same n (λ q. once (drawn q).bit) (λ q. bit_at (word_of_tape seed (from + q)) 0)
-    (λ q h. once-bit (bit_at (word_of_tape seed (from + q)) 0) (bit_at-lt (word_of_tape seed (from + q)) 0)) in
-    let bit = x ∙ (bits ∙ sym (bit-of-xor n 0 (λ q. word_of_tape seed (from + q)))) in
+    let parity = parity-drawn n (λ q. (drawn q).bit) word
+    (λ q. once-bit (bit_at (word_of_tape seed (from + q)) 0) (bit_at-lt (word_of_tape seed (from + q)) 0)) in
     let others = sum_to_same k (λ q. (drawn (suc q)).word) left
     (λ q h. pick-suc q _ _ ∙ ap (λ m. long_word_of_tape seed (from + n + 2 * m)) (omega arith)) in
-    let whole = w ∙ (sum-front k (λ q. (drawn q).word) ∙ ap (λ y. (drawn 0).word + y) (others ∙ ap (λ m. sum_to m left) (sym less))) in
+    let whole = sum-front k (λ q. (drawn q).word) ∙ ap (λ y. (drawn 0).word + y) (others ∙ ap (λ m. sum_to m left) (sym less)) in
     ap (λ y. y % 2 ^ 64) whole
-    ∙ (left-sums (bit_at (xor_to n (λ q. word_of_tape seed (from + q))) 0) (sum_to (n - 1) left)
-    ∙ ap (λ y. y % 2 ^ 64) (sym bit))
+    ∙ (left-sums (bit_at (xor_to n word) 0) (sum_to (n - 1) left)
+    ∙ (small-word (bit_at (xor_to n word) 0) (bit_at-lt (xor_to n word) 0) ∙ sym parity))
 
 low-bit : (w c : ℕ) → bit_at (w % 4 + 4 * c) 0 ≡ bit_at w 0
 low-bit w c = omega arith
@@ -205,6 +223,14 @@ bit-honest seed k from =
     ∙ (xor-again (bit_and (bit_at (xor_to n word) 0) (bit_at (xor_to n word) 1)) (bit_at (xor_to (n - 1) next) 2)
     ∙ ap₂ bit_and (sym a) (sym b))))
 
+-- what an offset is where a bit is 1, and 0 where it is 0
+abbrev times_bit : ℕ → ℕ → ℕ
+times_bit bit offset = if nat_eq bit 0 then 0 else offset
+
+times-once : (b : Bool) (offset : ℕ) → times_bit (once b) offset ≡ times b offset
+times-once true offset = refl
+times-once false offset = refl
+
 share-first : (seed : List ℕ) (n from owner : ℕ) → (share_drawn seed n 0 from owner).0
     ≡ bit_xor (times_bit (bit_at (word_xor seed from n) 0) (offset_drawn seed owner)) (key_xor seed (owner_begin n from owner) (n - 1))
 unfolding share_drawn
@@ -217,7 +243,7 @@ share-next seed n from owner q =
     pick-suc q _ _ ∙ ap (λ m. key_of_tape seed (owner_begin n from owner + 4 * m)) (omega arith)
 
 owner-share : (seed : List ℕ) (n from owner party : ℕ) → owner < n →
-    key_of_owner owner (key_drawn seed n party from) ≡ (share_drawn seed n party from owner).0
+    key_at (key_drawn seed n party from).times owner ≡ (share_drawn seed n party from owner).0
 unfolding key_drawn
 owner-share seed n from owner party h =
     ap (λ key. key.0) (get_or-map-range_with_len (share_drawn seed n party from) 0 n owner owner _ h (omega arith))
@@ -227,28 +253,24 @@ unfolding key_drawn
 key-bit seed n from party =
     once-bit (bit_at (word_of_tape seed (from + party)) 0) (bit_at-lt (word_of_tape seed (from + party)) 0)
 
-pub key-honest : (seed : List ℕ) (k from : ℕ) →
-    IsKeyBit (map (offset_drawn seed) (range_with_len 0 (suc k))) (each (suc k) (λ party. key_drawn seed (suc k) party from))
+pub key-honest : (seed : List ℕ) (k from : ℕ) → AreKeyBit (suc k) (offset_drawn seed) (λ party. key_drawn seed (suc k) party from)
 unfolding word_xor key_xor
-key-honest seed k from owner h =
+key-honest seed k from owner among =
     let n = suc k in
-    let among : owner < n = let count = length-map-range_with_len (offset_drawn seed) 0 n in omega arith in
     let drawn = λ (party : ℕ). key_drawn seed n party from in
     let place = owner_begin n from owner in
     let key = λ (q : ℕ). key_of_tape seed (place + 4 * q) in
     let word = λ (q : ℕ). word_of_tape seed (from + q) in
     let less : suc k - 1 ≡ k = omega arith in
-    let bit = xor-each (λ (t : KeyBit). once t.bit) n drawn
-    ∙ (xor_to_same n (λ q. once (drawn q).bit) (λ q. bit_at (word q) 0) (λ q i. key-bit seed n from q) ∙ sym (bit-of-xor n 0 word)) in
-    let offset = get_or-map-range_with_len (offset_drawn seed) 0 n owner owner 0 among (omega arith) in
+    let parity = parity-drawn n (λ q. (drawn q).bit) word (λ q. key-bit seed n from q) in
     let others = xor_to_same k (λ q. (share_drawn seed n (suc q) from owner).0) key (λ q i. share-next seed n from owner q)
     ∙ ap (λ m. xor_to m key) (sym less) in
-    xor-each (key_of_owner owner) n drawn
-    ∙ (xor_to_same n (λ q. key_of_owner owner (drawn q)) (λ q. (share_drawn seed n q from owner).0) (λ q i. owner-share seed n from owner q among)
+    xor_to_same n (λ q. key_at (drawn q).times owner) (λ q. (share_drawn seed n q from owner).0) (λ q i. owner-share seed n from owner q among)
     ∙ (xor-front k (λ q. (share_drawn seed n q from owner).0)
     ∙ (ap₂ bit_xor (share-first seed n from owner) others
     ∙ (xor-again (times_bit (bit_at (xor_to n word) 0) (offset_drawn seed owner)) (xor_to (n - 1) key)
-    ∙ ap₂ times_bit (sym bit) (sym offset)))))
+    ∙ (ap (λ b. times_bit b (offset_drawn seed owner)) (sym parity)
+    ∙ times-once (parity_to n (λ q. (drawn q).bit)) (offset_drawn seed owner)))))
 
 counts-same : (c : Needs) (m b s k : ℕ) → m ≡ c.mult → b ≡ c.bit → s ≡ c.shared → k ≡ c.key →
     ◌≡◌ {A = Needs} (record { mult = m; bit = b; shared = s; key = k }) c
@@ -269,6 +291,11 @@ all-drawn P seed n counts each-one i d h =
     let count = length-map-range_with_len (part_drawn seed n counts) 0 n in
     subst P (sym (get_or-map-range_with_len (part_drawn seed n counts) 0 n i i d (omega arith) (omega arith))) (each-one i)
 
+part-there : (seed : List ℕ) (n : ℕ) (counts : Needs) (party : ℕ) (d : Part) → party < n →
+    get_or (parts_drawn seed n counts) party d ≡ part_drawn seed n counts party
+part-there seed n counts party d h =
+    get_or-map-range_with_len (part_drawn seed n counts) 0 n party party d h (omega arith)
+
 odd-bit : (n : ℕ) → n % 2 ≡ 1 → bit_at n 0 ≡ 1
 odd-bit n e = omega arith
 
@@ -280,7 +307,7 @@ honest seed (suc k) counts some =
     let n = suc k in
     record {
       count = length-map-range_with_len (part_drawn seed n counts) 0 n;
-      order = λ party d h. ap (λ p. p.party) (get_or-map-range_with_len (part_drawn seed n counts) 0 n party party d h (omega arith));
+      order = λ party d h. ap (λ p. p.party) (part-there seed n counts party d h);
       one_deal = all-drawn (λ p. (p.parties ≡ n) × (p.id ≡ long_word_of_tape seed 0) × (counts_of p ≡ counts)) seed n counts
           (λ party. (refl, refl, drawn-counts seed n counts party));
       odd = all-drawn (λ p. bit_at p.offset 0 ≡ 1) seed n counts (λ party. odd-bit (offset_drawn seed party) (odd seed party));
@@ -292,14 +319,16 @@ honest seed (suc k) counts some =
           (sym (parts-each (λ p. get_or p.bits at 0) (λ party. bit_drawn seed n party (bit_begin n counts + n * at)) seed n counts
           (λ party. row-at (bit_drawn seed n party) (bit_begin n counts) n counts.bit at 0 h)))
           (bit-honest seed k (bit_begin n counts + n * at));
-      shared = λ at d h. subst IsSharedBit
-          (sym (parts-each (λ p. get_or p.shared at d) (λ party. shared_drawn seed n party (shared_begin n counts + shared_words n * at)) seed n counts
-          (λ party. row-at (shared_drawn seed n party) (shared_begin n counts) (shared_words n) counts.shared at d h)))
+      shared = λ at d s h. shared_bit_same n (λ party. shared_drawn seed n party (shared_begin n counts + shared_words n * at))
+          (λ party. get_or (get_or (parts_drawn seed n counts) party d).shared at s)
+          (λ party small. sym (ap (λ p. get_or p.shared at s) (part-there seed n counts party d small)
+          ∙ row-at (shared_drawn seed n party) (shared_begin n counts) (shared_words n) counts.shared at s h))
           (shared-honest seed k (shared_begin n counts + shared_words n * at));
-      key = λ at d h. subst (λ os. IsKeyBit os (map (λ p. get_or p.keys at d) (parts_drawn seed n counts)))
-          (sym (parts-each (λ p. p.offset) (offset_drawn seed) seed n counts (λ party. refl) ∙ sym (row-map (offset_drawn seed) n)))
-          (subst (IsKeyBit (map (offset_drawn seed) (range_with_len 0 n)))
-          (sym (parts-each (λ p. get_or p.keys at d) (λ party. key_drawn seed n party (key_begin n counts + key_words n * at)) seed n counts
-          (λ party. row-at (key_drawn seed n party) (key_begin n counts) (key_words n) counts.key at d h)))
-          (key-honest seed k (key_begin n counts + key_words n * at)));
+      key = λ at d e h. key_bit_same n (offset_drawn seed) (λ party. (get_or (parts_drawn seed n counts) party d).offset)
+          (λ party. key_drawn seed n party (key_begin n counts + key_words n * at))
+          (λ party. get_or (get_or (parts_drawn seed n counts) party d).keys at e)
+          (λ party small. sym (ap (λ p. p.offset) (part-there seed n counts party d small)))
+          (λ party small. sym (ap (λ p. get_or p.keys at e) (part-there seed n counts party d small)
+          ∙ row-at (key_drawn seed n party) (key_begin n counts) (key_words n) counts.key at e h))
+          (key-honest seed k (key_begin n counts + key_words n * at));
     }
