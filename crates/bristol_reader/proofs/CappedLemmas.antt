@@ -13,8 +13,8 @@ use Rattle.bristol_reader.specs.Kinds.{is_arity, is_constant, kind_of}
 use Rattle.bristol_reader.specs.Circuit.{Gate, Circuit, Sizes, Progress}
 use Rattle.bristol_reader.specs.Line.{numbers_of, decimal_of, input_bound, is_in_range, are_ins_set, gate_used, added, adds_numbers, adds, last_word, front_words}
 use Rattle.bristol_reader.specs.Grammar.{are_few, sizes_in, widths_in, sizes_said, widths_said}
-use Rattle.bristol_reader.specs.declared.cause.LineError.{LineError}
-use Rattle.bristol_reader.specs.Gives.{Gives}
+use Rattle.text_lines.specs.declared.cause.LineError.{LineError}
+use Rattle.text_lines.specs.Gives.{Gives}
 use Rattle.bristol_reader.specs.Stored.{capped, sizes_kept, widths_kept, adds_kept, adds_words}
 use Rattle.text_lines.specs.Text.{Text}
 use Rattle.text_lines.specs.Chain.{◌>>=◌, or_cause, unless}
@@ -260,5 +260,5 @@ adds_same p ws h few =
     kind_then (or_cause GateName (kind_of (last_word ws))) _ _ (λ kind. capped_then Arity (adds_numbers p kind) (numbers_of (front_words ws)) (λ ns e. let count = numbers_count (front_words ws) ns e in numbers_capped p kind ns h (omega arith)))
 
 -- what is returned is what is read, by whichever of two equal readings
-pub gives_same : {X Z : Type 0} (view : X → Z) (r : Result X LineError) (a b : Result Z BristolCause) → a ≡ b → Gives view r a → Gives view r b
+pub gives_same : {X Z : Type 0} (view : X → Z) (r : Result X (LineError BristolCause)) (a b : Result Z BristolCause) → a ≡ b → Gives view r a → Gives view r b
 gives_same {X} {Z} view r a b e h = let P : Result Z BristolCause → Type 0 = λ read. Gives view r read in subst P e h

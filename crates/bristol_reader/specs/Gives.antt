@@ -1,23 +1,13 @@
 -- What a part of the reader returned, against what is to be read.
 use Rattle.std.specs.Prelude.{ℕ, ◌≡◌, Result, Ok, Err}
 use Rattle.bristol_reader.specs.declared.cause.BristolCause.{BristolCause}
-use Rattle.bristol_reader.specs.declared.cause.LineError.{LineError}
-use Rattle.bristol_reader.specs.declared.cause.LineError.TheVariants as line_error
+use Rattle.text_lines.specs.declared.cause.LineError.{LineError}
+use Rattle.text_lines.specs.declared.cause.LineError.TheVariants as line_error
 use Rattle.bristol_reader.specs.declared.cause.BristolError.{BristolError}
 use Rattle.bristol_reader.specs.declared.cause.BristolError.TheVariants as bristol_error
 
--- an error is the cause that is read, or memory ran out
-abbrev pub Fails : {Z : Type 0} → LineError → Result Z BristolCause → Type 0
-Fails line_error.NoMemory read = Unit {0}
-Fails (line_error.Shows cause) read = read ≡ Err cause
-
--- a result, seen by view, is what is read, unless memory ran out
-abbrev pub Gives : {X Z : Type 0} → (X → Z) → Result X LineError → Result Z BristolCause → Type 0
-Gives view (Ok x) read = read ≡ Ok (view x)
-Gives view (Err e) read = Fails e read
-
 -- the error of a line
-abbrev pub error_at : ℕ → LineError → BristolError
+abbrev pub error_at : ℕ → LineError BristolCause → BristolError
 error_at line (line_error.Shows cause) = bristol_error.At line cause
 error_at line line_error.NoMemory = bristol_error.NoMemory
 

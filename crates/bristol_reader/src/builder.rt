@@ -3,10 +3,10 @@ ghost use Rattle.std.specs.List.{list_all};
 ghost use Rattle.bristol_reader.specs.Circuit.{is_set, no_gates, more_gates, are_outputs_set};
 ghost use Rattle.bristol_reader.specs.Line.{is_in_range, are_ins_set, are_outs_new, added};
 ghost use Rattle.bristol_reader.specs.Kinds.{is_arity};
-ghost use Rattle.bristol_reader.specs.Gives.{Gives};
+ghost use Rattle.text_lines.specs.Gives.{Gives};
 ghost use Rattle.bristol_reader.specs.Stored.{stated_gate};
 
-use crate::cause::{BristolCause, LineError};
+use crate::cause::BristolCause;
 use crate::circuit::Bristol;
 use crate::gates::Gates;
 use crate::header::Heading;
@@ -15,6 +15,7 @@ use crate::marks::{mark_all, marks};
 use crate::widths::Widths;
 use std::alloc::{AllocError, Global};
 use std::marker::Model;
+use text_lines::LineError;
 
 /// A circuit that grows by one gate after another, how many gates are stated, and for each wire whether it is an input
 /// or set.
@@ -107,7 +108,7 @@ impl Builder {
     }
 
     /// The circuit with one gate more, the outputs of which have to be new.
-    pub fn with_gate(self, gate: &Stated) -> Result<Builder, LineError>
+    pub fn with_gate(self, gate: &Stated) -> Result<Builder, LineError<BristolCause>>
         requires room { length self.circuit.gates < self.stated }
         requires arity { is_arity gate.now.kind (length gate.now.ins.now) (length gate.now.outs.now) ≡ true }
         requires range { is_in_range self.circuit.wires (stated_gate gate.now) ≡ true }

@@ -1,8 +1,5 @@
-ghost use Rattle.std.specs.Prelude.{◌≡◌};
-ghost use Rattle.text_lines.specs.Chain.{unless};
-ghost use Rattle.bristol_reader.specs.Gives.{error_at};
-
 use std::alloc::{AllocError, AllocFailed};
+use text_lines::LineError;
 use thiserror::Error;
 
 /// What is wrong with a line of a text in Bristol Fashion. Within one line the causes are looked for in this order:
@@ -59,62 +56,13 @@ pub enum BristolError {
     NoMemory,
 }
 
-/// Why a line was not read.
-#[derive(Clone, Copy)]
-pub enum LineError {
-    /// The first cause that the line shows.
-    Shows(BristolCause),
-    NoMemory,
-}
-
-impl LineError {
-    /// The error of a line, whose number is given.
-    pub fn at(self, line: u32) -> BristolError
-        ensures { result ≡ error_at line self }
-    {
-        match self {
-            LineError::Shows(cause) => BristolError::At { line, cause },
-            LineError::NoMemory => BristolError::NoMemory,
-        }
-    }
-}
-
-impl From<BristolCause> for LineError {
+impl From<BristolCause> for LineError<BristolCause> {
     ghost use Rattle.std.specs.Prelude.{◌≡◌};
-    ghost use Rattle.bristol_reader.specs.declared.cause.LineError.TheVariants.{Shows};
+    ghost use Rattle.text_lines.specs.declared.cause.LineError.TheVariants.{Shows};
 
     ghost from_gives = { λ cause e. e ≡ Shows cause };
 
-    fn from(cause: BristolCause) -> LineError {
+    fn from(cause: BristolCause) -> LineError<BristolCause> {
         LineError::Shows(cause)
     }
-}
-
-impl From<AllocError> for LineError {
-    ghost use Rattle.std.specs.Prelude.{◌≡◌};
-    ghost use Rattle.bristol_reader.specs.declared.cause.LineError.TheVariants.{NoMemory};
-
-    ghost from_gives = { λ _ e. e ≡ NoMemory };
-
-    fn from(_error: AllocError) -> LineError {
-        LineError::NoMemory
-    }
-}
-
-impl<T: Drop> From<AllocFailed<T>> for LineError {
-    ghost use Rattle.std.specs.Prelude.{◌≡◌};
-    ghost use Rattle.bristol_reader.specs.declared.cause.LineError.TheVariants.{NoMemory};
-
-    ghost from_gives = { λ _ e. e ≡ NoMemory };
-
-    fn from(_error: AllocFailed<T>) -> LineError {
-        LineError::NoMemory
-    }
-}
-
-/// A cause, unless a test passes.
-pub fn check(passes: bool, cause: BristolCause) -> Result<(), BristolCause>
-    ensures { result ≡ unless cause passes }
-{
-    if passes { Ok(()) } else { Err(cause) }
 }

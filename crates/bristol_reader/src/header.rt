@@ -1,15 +1,16 @@
 ghost use Rattle.std.specs.Prelude.{◌≡◌, ◌≤◌, map, sum, option_map, true, IfOk, IfSome};
 ghost use Rattle.bristol_reader.specs.Grammar.{sizes_in, sizes_said, widths_of, widths_in, widths_said};
 ghost use Rattle.bristol_reader.specs.Stored.{sizes_kept, widths_kept};
-ghost use Rattle.bristol_reader.specs.Gives.{Gives};
+ghost use Rattle.text_lines.specs.Gives.{Gives};
 ghost use Rattle.bristol_reader.specs.Built.{are_positive};
 
-use crate::cause::{BristolCause, LineError, check};
+use crate::cause::BristolCause;
 use crate::number::numbers;
 use crate::widths::Widths;
 use mot_base::{MAX_STATEMENTS, MAX_WIRES};
 use std::alloc::Global;
 use std::marker::Model;
+use text_lines::{LineError, check};
 
 /// What the first header line states: how many gates and how many wires.
 #[derive(Debug, Drop)]
@@ -49,7 +50,11 @@ impl Model for Heading {
 }
 
 /// The sizes that the words of the first header line state. Whether the text ends with that line is given.
-pub fn sizes_said(alloc: Global, ends: bool, words: &[&[u8]]) -> Result<Sizes, LineError>
+pub fn sizes_said(
+    alloc: Global,
+    ends: bool,
+    words: &[&[u8]],
+) -> Result<Sizes, LineError<BristolCause>>
     ensures { Gives (λ s. s) result (sizes_said ends (map (λ word. word.now) words.now)) }
 {
     sizes_kept(alloc, ends, words)
@@ -57,7 +62,7 @@ pub fn sizes_said(alloc: Global, ends: bool, words: &[&[u8]]) -> Result<Sizes, L
 
 /// The same, where each number is kept in 64 bits.
 #[tactic(auto, unfolding(crate::specs::Stored::sizes_kept))]
-fn sizes_kept(alloc: Global, ends: bool, words: &[&[u8]]) -> Result<Sizes, LineError>
+fn sizes_kept(alloc: Global, ends: bool, words: &[&[u8]]) -> Result<Sizes, LineError<BristolCause>>
     ensures { Gives (λ s. s) result (sizes_kept ends (map (λ word. word.now) words.now)) }
 {
     let numbers = numbers(alloc, words)?.ok_or(BristolCause::Header)?;
@@ -92,7 +97,7 @@ pub fn widths_said(
     ends: bool,
     wires: u32,
     words: &[&[u8]],
-) -> Result<Widths, LineError>
+) -> Result<Widths, LineError<BristolCause>>
     ensures value { Gives (λ w. w) result (widths_said ends wires (map (λ word. word.now) words.now)) }
     ensures few { IfOk result (λ w. sum w ≤ wires) }
 {
@@ -101,7 +106,12 @@ pub fn widths_said(
 
 /// The same, where each number is kept in 64 bits.
 #[tactic(auto, unfolding(crate::specs::Stored::widths_kept))]
-fn widths_kept(alloc: Global, ends: bool, wires: u32, words: &[&[u8]]) -> Result<Widths, LineError>
+fn widths_kept(
+    alloc: Global,
+    ends: bool,
+    wires: u32,
+    words: &[&[u8]],
+) -> Result<Widths, LineError<BristolCause>>
     ensures value { Gives (λ w. w) result (widths_kept ends wires (map (λ word. word.now) words.now)) }
     ensures few { IfOk result (λ w. sum w ≤ wires) }
 {
@@ -112,7 +122,12 @@ fn widths_kept(alloc: Global, ends: bool, wires: u32, words: &[&[u8]]) -> Result
 
 /// The widths that the numbers of another header line state.
 #[tactic(auto, unfolding(crate::specs::Grammar::widths_in))]
-fn widths_in(alloc: Global, ends: bool, wires: u32, numbers: &[u64]) -> Result<Widths, LineError>
+fn widths_in(
+    alloc: Global,
+    ends: bool,
+    wires: u32,
+    numbers: &[u64],
+) -> Result<Widths, LineError<BristolCause>>
     ensures value { Gives (λ w. w) result (widths_in ends wires numbers.now) }
     ensures few { IfOk result (λ w. sum w ≤ wires) }
 {

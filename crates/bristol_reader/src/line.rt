@@ -3,13 +3,14 @@ ghost use Rattle.std.specs.List.{list_all};
 ghost use Rattle.bristol_reader.specs.Circuit.{is_set};
 ghost use Rattle.bristol_reader.specs.Line.{gate_stated, is_in_range, are_ins_set, gate_used, adds_numbers, adds};
 ghost use Rattle.bristol_reader.specs.Stored.{stated_gate, adds_kept, adds_words};
-ghost use Rattle.bristol_reader.specs.Gives.{Gives};
+ghost use Rattle.text_lines.specs.Gives.{Gives};
 
 use crate::builder::Builder;
-use crate::cause::{BristolCause, LineError, check};
+use crate::cause::BristolCause;
 use crate::kind::{BristolKind, kind_of};
 use crate::number::numbers;
 use std::alloc::Global;
+use text_lines::{LineError, check};
 
 /// The gate that a line states.
 #[derive(Clone, Copy)]
@@ -20,7 +21,11 @@ pub struct Stated<'a> {
 }
 
 /// The circuit with the gate that the words of a line say.
-pub fn with_line(alloc: Global, builder: Builder, words: &[&[u8]]) -> Result<Builder, LineError>
+pub fn with_line(
+    alloc: Global,
+    builder: Builder,
+    words: &[&[u8]],
+) -> Result<Builder, LineError<BristolCause>>
     requires { length builder.circuit.gates < builder.stated }
     ensures { Gives (λ b. b) result (adds builder (map (λ word. word.now) words.now)) }
 {
@@ -30,7 +35,11 @@ pub fn with_line(alloc: Global, builder: Builder, words: &[&[u8]]) -> Result<Bui
 
 /// The same, where each number is kept in 64 bits.
 #[tactic(auto, unfolding(crate::specs::Stored::adds_kept))]
-fn with_line_kept(alloc: Global, builder: Builder, words: &[&[u8]]) -> Result<Builder, LineError>
+fn with_line_kept(
+    alloc: Global,
+    builder: Builder,
+    words: &[&[u8]],
+) -> Result<Builder, LineError<BristolCause>>
     requires { length builder.circuit.gates < builder.stated }
     ensures { Gives (λ b. b) result (adds_kept builder (map (λ word. word.now) words.now)) }
 {
@@ -48,7 +57,7 @@ fn with_words(
     builder: Builder,
     kind: BristolKind,
     words: &[&[u8]],
-) -> Result<Builder, LineError>
+) -> Result<Builder, LineError<BristolCause>>
     requires { length builder.circuit.gates < builder.stated }
     ensures { Gives (λ b. b) result (adds_words builder kind (map (λ word. word.now) words.now)) }
 {
@@ -58,7 +67,11 @@ fn with_words(
 
 /// The circuit with the gate of a kind that numbers state.
 #[tactic(auto, unfolding(crate::specs::Line::adds_numbers))]
-fn with_numbers(builder: Builder, kind: BristolKind, numbers: &[u64]) -> Result<Builder, LineError>
+fn with_numbers(
+    builder: Builder,
+    kind: BristolKind,
+    numbers: &[u64],
+) -> Result<Builder, LineError<BristolCause>>
     requires { length builder.circuit.gates < builder.stated }
     ensures { Gives (λ b. b) result (adds_numbers builder kind numbers.now) }
 {
@@ -73,7 +86,7 @@ fn gate_used<'a>(
     builder: &Builder,
     kind: BristolKind,
     numbers: &'a [u64],
-) -> Result<Stated<'a>, LineError>
+) -> Result<Stated<'a>, LineError<BristolCause>>
     ensures { Gives stated_gate result (gate_used builder.now.circuit kind numbers.entry.now) }
 {
     let gate = gate_stated(kind, numbers).ok_or(BristolCause::Arity)?;

@@ -2,17 +2,18 @@ ghost use Rattle.std.specs.Prelude.{◌≡◌, ◌≤◌, false, length, map, Ok
 ghost use Rattle.mot_base.specs.Limits.{most_file_bytes};
 ghost use Rattle.bristol_reader.specs.Grammar.{EachReadsOrFaults, Reads, IsFirstFault, IsDone, circuit_of, read_last, behind_line, behind_words, behind_blank, ended};
 ghost use Rattle.bristol_reader.specs.Read.{EachReadIsCircuit};
-ghost use Rattle.bristol_reader.specs.Gives.{Gives, GivesAt};
+ghost use Rattle.text_lines.specs.Gives.{Gives};
+ghost use Rattle.bristol_reader.specs.Gives.{GivesAt, error_at};
 ghost use Rattle.bristol_reader.specs.declared.stage.Stage.TheVariants.{Body};
 
 use crate::builder::Builder;
-use crate::cause::{BristolCause, BristolError, LineError, check};
+use crate::cause::{BristolCause, BristolError};
 use crate::circuit::Bristol;
 use crate::header::{Heading, sizes_said, widths_said};
 use crate::line::with_line;
 use crate::stage::Stage;
 use std::alloc::Global;
-use text_lines::{Lines, are_allowed, words_of};
+use text_lines::{LineError, Lines, are_allowed, check, words_of};
 
 /// Reads a circuit in Bristol Fashion.
 pub fn read_bristol(alloc: Global, bytes: &[u8]) -> Result<Bristol, BristolError>
@@ -57,7 +58,7 @@ fn circuit_behind(
 {
     match behind_line(alloc, true, stage, line) {
         Ok(done) => Ok(finished(done)),
-        Err(error) => Err(error.at(number)),
+        Err(error) => Err(at_line(number, error)),
     }
 }
 
@@ -83,13 +84,18 @@ fn behind_numbered(
 {
     match behind_line(alloc, false, stage, line) {
         Ok(next) => Ok(next),
-        Err(error) => Err(error.at(number)),
+        Err(error) => Err(at_line(number, error)),
     }
 }
 
 /// What is read behind a line, of which it is told whether it is the last.
 #[tactic(auto, unfolding(crate::specs::Grammar::behind_line))]
-fn behind_line(alloc: Global, last: bool, stage: Stage, line: &[u8]) -> Result<Stage, LineError>
+fn behind_line(
+    alloc: Global,
+    last: bool,
+    stage: Stage,
+    line: &[u8],
+) -> Result<Stage, LineError<BristolCause>>
     ensures { Gives (λ s. s) result (behind_line last stage line.now) }
 {
     check(are_allowed(line), BristolCause::NotText)?;
@@ -102,7 +108,7 @@ fn behind_line(alloc: Global, last: bool, stage: Stage, line: &[u8]) -> Result<S
 }
 
 /// What is read behind a line of no words.
-fn behind_blank(last: bool, stage: Stage) -> Result<Stage, LineError>
+fn behind_blank(last: bool, stage: Stage) -> Result<Stage, LineError<BristolCause>>
     ensures { Gives (λ s. s) result (behind_blank last stage) }
 {
     match stage {
@@ -121,7 +127,7 @@ fn behind_words(
     last: bool,
     stage: Stage,
     words: &[&[u8]],
-) -> Result<Stage, LineError>
+) -> Result<Stage, LineError<BristolCause>>
     ensures { Gives (λ s. s) result (behind_words last stage (map (λ word. word.now) words.now)) }
 {
     match stage {
@@ -149,7 +155,7 @@ fn behind_gate(
     last: bool,
     builder: Builder,
     words: &[&[u8]],
-) -> Result<Stage, LineError>
+) -> Result<Stage, LineError<BristolCause>>
     ensures { Gives (λ s. s) result (behind_words last (Body builder) (map (λ word. word.now) words.now)) }
 {
     let count = builder.len();
@@ -163,7 +169,7 @@ fn behind_gate(
 
 /// What is read behind the third header line or a later one, of which it is told whether it is the last.
 #[tactic(auto, unfolding(crate::specs::Grammar::ended))]
-fn ended(last: bool, builder: Builder) -> Result<Stage, LineError>
+fn ended(last: bool, builder: Builder) -> Result<Stage, LineError<BristolCause>>
     ensures { Gives (λ s. s) result (ended last builder) }
 {
     check(
@@ -175,4 +181,14 @@ fn ended(last: bool, builder: Builder) -> Result<Stage, LineError>
         BristolCause::OutputUnset,
     )?;
     Ok(Stage::Body(builder))
+}
+
+/// The error of a line.
+fn at_line(line: u32, error: LineError<BristolCause>) -> BristolError
+    ensures { result ≡ error_at line error }
+{
+    match error {
+        LineError::Shows(cause) => BristolError::At { line, cause },
+        LineError::NoMemory => BristolError::NoMemory,
+    }
 }

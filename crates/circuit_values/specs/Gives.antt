@@ -3,21 +3,11 @@ use Rattle.std.specs.Prelude.{ℕ, ◌≡◌, Result, Ok, Err}
 use Rattle.circuit_values.specs.declared.cause.ValuesCause.{ValuesCause}
 use Rattle.circuit_values.specs.declared.cause.ValuesError.{ValuesError}
 use Rattle.circuit_values.specs.declared.cause.ValuesError.TheVariants as values_error
-use Rattle.circuit_values.specs.declared.cause.LineError.{LineError}
-use Rattle.circuit_values.specs.declared.cause.LineError.TheVariants as line_error
-
--- an error is the cause that is read, or memory ran out
-abbrev pub Fails : {Z : Type 0} → LineError → Result Z ValuesCause → Type 0
-Fails line_error.NoMemory read = Unit {0}
-Fails (line_error.Shows cause) read = read ≡ Err cause
-
--- a result, seen by view, is what is read, unless memory ran out
-abbrev pub Gives : {X Z : Type 0} → (X → Z) → Result X LineError → Result Z ValuesCause → Type 0
-Gives view (Ok x) read = read ≡ Ok (view x)
-Gives view (Err e) read = Fails e read
+use Rattle.text_lines.specs.declared.cause.LineError.{LineError}
+use Rattle.text_lines.specs.declared.cause.LineError.TheVariants as line_error
 
 -- the error of a line
-abbrev pub error_at : ℕ → LineError → ValuesError
+abbrev pub error_at : ℕ → LineError ValuesCause → ValuesError
 error_at line (line_error.Shows cause) = values_error.At line cause
 error_at line line_error.NoMemory = values_error.NoMemory
 

@@ -1,4 +1,5 @@
 use std::alloc::{AllocError, AllocFailed};
+use text_lines::LineError;
 use thiserror::Error;
 
 /// What is wrong with a line of a values text. Within one line the causes are looked for in this order:
@@ -55,43 +56,13 @@ impl From<AllocError> for ValuesError {
     }
 }
 
-/// Why a line was not read.
-#[derive(Clone, Copy)]
-pub enum LineError {
-    /// The first cause that the line shows.
-    Shows(ValuesCause),
-    NoMemory,
-}
-
-impl From<ValuesCause> for LineError {
+impl From<ValuesCause> for LineError<ValuesCause> {
     ghost use Rattle.std.specs.Prelude.{◌≡◌};
-    ghost use Rattle.circuit_values.specs.declared.cause.LineError.TheVariants.{Shows};
+    ghost use Rattle.text_lines.specs.declared.cause.LineError.TheVariants.{Shows};
 
     ghost from_gives = { λ cause e. e ≡ Shows cause };
 
-    fn from(cause: ValuesCause) -> LineError {
+    fn from(cause: ValuesCause) -> LineError<ValuesCause> {
         LineError::Shows(cause)
-    }
-}
-
-impl From<AllocError> for LineError {
-    ghost use Rattle.std.specs.Prelude.{◌≡◌};
-    ghost use Rattle.circuit_values.specs.declared.cause.LineError.TheVariants.{NoMemory};
-
-    ghost from_gives = { λ _ e. e ≡ NoMemory };
-
-    fn from(_error: AllocError) -> LineError {
-        LineError::NoMemory
-    }
-}
-
-impl<T: Drop> From<AllocFailed<T>> for LineError {
-    ghost use Rattle.std.specs.Prelude.{◌≡◌};
-    ghost use Rattle.circuit_values.specs.declared.cause.LineError.TheVariants.{NoMemory};
-
-    ghost from_gives = { λ _ e. e ≡ NoMemory };
-
-    fn from(_error: AllocFailed<T>) -> LineError {
-        LineError::NoMemory
     }
 }

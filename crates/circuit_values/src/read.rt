@@ -5,16 +5,17 @@ ghost use Rattle.circuit_values.specs.declared.cause.ValuesCause.TheVariants.{Mi
 ghost use Rattle.circuit_tables.specs.Table.{AreNamedApart};
 ghost use Rattle.circuit_values.specs.Values.{is_free, is_literal, assignment_of, behind_words, behind, values_of, ReadsValues, IsFirstFault, EachReadsOrFaults};
 ghost use Rattle.circuit_tables.specs.Values.{is_owned, HaveWidths};
-ghost use Rattle.circuit_values.specs.Gives.{Gives, GivesAt, error_at};
+ghost use Rattle.text_lines.specs.Gives.{Gives};
+ghost use Rattle.circuit_values.specs.Gives.{GivesAt, error_at};
 
 use crate::asked::Asked;
-use crate::cause::{LineError, ValuesCause, ValuesError};
+use crate::cause::{ValuesCause, ValuesError};
 use crate::given::Given;
 use crate::literal::{is_literal_word, literal_bits};
 use circuit_tables::{InputTable, Values};
 use mot_base::Party;
 use std::alloc::Global;
-use text_lines::{Lines, are_allowed, line_words_of};
+use text_lines::{LineError, Lines, are_allowed, check, line_words_of};
 
 /// Reads a values text for the inputs of a table: for those of an owner, or for all where there is none.
 pub fn read_values(
@@ -127,25 +128,28 @@ fn behind_numbered(
 {
     match behind_line(alloc, asked, given, line) {
         Ok(next) => Ok(next),
-        Err(error) => Err(error.at(number)),
+        Err(error) => Err(at_line(number, error)),
     }
 }
 
-impl LineError {
-    /// The error of a line, whose number is given.
-    fn at(self, line: u32) -> ValuesError
-        ensures { result ≡ error_at line self }
-    {
-        match self {
-            LineError::Shows(cause) => ValuesError::At { line, cause },
-            LineError::NoMemory => ValuesError::NoMemory,
-        }
+/// The error of a line.
+fn at_line(line: u32, error: LineError<ValuesCause>) -> ValuesError
+    ensures { result ≡ error_at line error }
+{
+    match error {
+        LineError::Shows(cause) => ValuesError::At { line, cause },
+        LineError::NoMemory => ValuesError::NoMemory,
     }
 }
 
 /// The bits that inputs have behind a line.
 #[tactic(auto, unfolding(crate::specs::Values::behind))]
-fn behind_line(alloc: Global, asked: &Asked, given: Given, line: &[u8]) -> Result<Given, LineError>
+fn behind_line(
+    alloc: Global,
+    asked: &Asked,
+    given: Given,
+    line: &[u8],
+) -> Result<Given, LineError<ValuesCause>>
     requires { length given ≡ length asked.now.inputs }
     ensures value { Gives (λ g. g) result (behind asked.now.inputs asked.now.owner given line.now) }
     ensures count { IfOk result (λ g. length g ≡ length asked.now.inputs) }
@@ -166,7 +170,7 @@ fn behind_some_words(
     asked: &Asked,
     given: Given,
     words: &[&[u8]],
-) -> Result<Given, LineError>
+) -> Result<Given, LineError<ValuesCause>>
     requires { length given ≡ length asked.now.inputs }
     ensures value { Gives (λ g. g) result (behind_words asked.now.inputs asked.now.owner given (map (λ
         word. word.now) words.now)) }
@@ -196,11 +200,4 @@ fn assigned<'a>(words: &[&'a [u8]]) -> Option<(&'a [u8], &'a [u8])>
         }
         _ => None,
     }
-}
-
-/// A cause, unless a test passes.
-fn check(passes: bool, cause: ValuesCause) -> Result<(), ValuesCause>
-    ensures { result ≡ unless cause passes }
-{
-    if passes { Ok(()) } else { Err(cause) }
 }

@@ -1,7 +1,6 @@
 pub mod Line
 pub mod Says
 pub mod Grammar
-pub mod Gives
 pub mod Reading
 pub mod Stated
 pub mod Written

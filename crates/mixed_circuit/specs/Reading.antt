@@ -3,11 +3,11 @@ use Rattle.std.specs.Prelude.{ℕ, ◌≡◌, Result, Ok, Err}
 use Rattle.mixed_circuit.specs.declared.cause.CircuitCause.{CircuitCause}
 use Rattle.mixed_circuit.specs.declared.cause.CircuitError.{CircuitError}
 use Rattle.mixed_circuit.specs.declared.cause.CircuitError.TheVariants as circuit_error
-use Rattle.mixed_circuit.specs.declared.cause.LineError.{LineError}
-use Rattle.mixed_circuit.specs.declared.cause.LineError.TheVariants as line_error
+use Rattle.text_lines.specs.declared.cause.LineError.{LineError}
+use Rattle.text_lines.specs.declared.cause.LineError.TheVariants as line_error
 
 -- the error of a line
-abbrev pub error_at : ℕ → LineError → CircuitError
+abbrev pub error_at : ℕ → LineError CircuitCause → CircuitError
 error_at line (line_error.Shows cause) = circuit_error.At line cause
 error_at line line_error.NoMemory = circuit_error.NoMemory
 

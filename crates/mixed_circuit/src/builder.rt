@@ -5,15 +5,15 @@ ghost use Rattle.mixed_language.specs.Circuit.{no_statements, place_of, with_sta
 ghost use Rattle.mixed_circuit.specs.Line.{is_new, operand_of, operands_of};
 ghost use Rattle.text_lines.specs.Chain.{or_cause};
 ghost use Rattle.mixed_language.specs.Valid.{IsCircuit, IsStatement};
-ghost use Rattle.mixed_circuit.specs.Gives.{Gives};
+ghost use Rattle.text_lines.specs.Gives.{Gives};
 
-use crate::cause::{CircuitCause, LineError};
+use crate::cause::CircuitCause;
 use crate::names::Places;
 use mixed_language::{Mixed, NewStatement, Operand};
 use mot_base::MAX_STATEMENTS;
 use std::alloc::{AllocError, Global};
 use std::marker::Model;
-use text_lines::text_of;
+use text_lines::{LineError, text_of};
 
 /// A circuit that grows by one statement after another, and the places of its values by their names, which
 /// stand in the text that is read.
@@ -101,7 +101,11 @@ impl<'a> Builder<'a> {
     }
 
     /// The values that words name.
-    pub fn operands(&self, alloc: Global, words: &[&[u8]]) -> Result<Vec<Operand>, LineError>
+    pub fn operands(
+        &self,
+        alloc: Global,
+        words: &[&[u8]],
+    ) -> Result<Vec<Operand>, LineError<CircuitCause>>
         ensures { Gives (λ found. found.items) result (or_cause NameUnknown (operands_of
             self.now.statements (map (λ word. word.now) words.now))) }
     {

@@ -1,4 +1,5 @@
 use std::alloc::{AllocError, AllocFailed};
+use text_lines::LineError;
 use thiserror::Error;
 
 /// What is wrong with a line of a circuit's text. Within one line the causes are looked for in this order:
@@ -60,43 +61,13 @@ impl From<AllocError> for CircuitError {
     }
 }
 
-/// Why a line was not read.
-#[derive(Clone, Copy)]
-pub enum LineError {
-    /// The first cause that the line shows.
-    Shows(CircuitCause),
-    NoMemory,
-}
-
-impl From<CircuitCause> for LineError {
+impl From<CircuitCause> for LineError<CircuitCause> {
     ghost use Rattle.std.specs.Prelude.{◌≡◌};
-    ghost use Rattle.mixed_circuit.specs.declared.cause.LineError.TheVariants.{Shows};
+    ghost use Rattle.text_lines.specs.declared.cause.LineError.TheVariants.{Shows};
 
     ghost from_gives = { λ cause e. e ≡ Shows cause };
 
-    fn from(cause: CircuitCause) -> LineError {
+    fn from(cause: CircuitCause) -> LineError<CircuitCause> {
         LineError::Shows(cause)
-    }
-}
-
-impl From<AllocError> for LineError {
-    ghost use Rattle.std.specs.Prelude.{◌≡◌};
-    ghost use Rattle.mixed_circuit.specs.declared.cause.LineError.TheVariants.{NoMemory};
-
-    ghost from_gives = { λ _ e. e ≡ NoMemory };
-
-    fn from(_error: AllocError) -> LineError {
-        LineError::NoMemory
-    }
-}
-
-impl<T: Drop> From<AllocFailed<T>> for LineError {
-    ghost use Rattle.std.specs.Prelude.{◌≡◌};
-    ghost use Rattle.mixed_circuit.specs.declared.cause.LineError.TheVariants.{NoMemory};
-
-    ghost from_gives = { λ _ e. e ≡ NoMemory };
-
-    fn from(_error: AllocFailed<T>) -> LineError {
-        LineError::NoMemory
     }
 }

@@ -1,16 +1,17 @@
 ghost use Rattle.std.specs.Prelude.{◌≡◌, map};
 ghost use Rattle.mixed_circuit.specs.Line.{is_party, resolved, said};
 ghost use Rattle.mixed_circuit.specs.Grammar.{adds};
-ghost use Rattle.mixed_circuit.specs.Gives.{Gives};
+ghost use Rattle.text_lines.specs.Gives.{Gives};
 ghost use Rattle.mixed_circuit.specs.Stated.{stated, AreWhole};
 
 use crate::builder::Builder;
-use crate::cause::{CircuitCause, LineError};
+use crate::cause::CircuitCause;
 use crate::operand::{sharing_of_all, width_of_all};
-use crate::raw::{Raw, check, raw_of};
+use crate::raw::{Raw, raw_of};
 use crate::statement::statement_said;
 use mixed_language::NewStatement;
 use std::alloc::Global;
+use text_lines::{LineError, check};
 
 /// The circuit with the statement that the words of a line say.
 #[tactic(auto, unfolding(crate::specs::Grammar::adds))]
@@ -18,7 +19,7 @@ pub fn with_line<'a>(
     alloc: Global,
     builder: Builder<'a>,
     words: &[&'a [u8]],
-) -> Result<Builder<'a>, LineError>
+) -> Result<Builder<'a>, LineError<CircuitCause>>
     ensures { Gives (λ b. b) result (adds builder.entry (map (λ word. word.now) words.entry.now)) }
 {
     let said = statement_of_words(alloc, &builder, words)?;
@@ -32,7 +33,7 @@ fn statement_of_words<'a>(
     alloc: Global,
     builder: &Builder,
     words: &[&'a [u8]],
-) -> Result<NewStatement<'a>, LineError>
+) -> Result<NewStatement<'a>, LineError<CircuitCause>>
     ensures { Gives (λ s. s) result (said builder.now (map (λ word. word.now) words.entry.now)) }
 {
     let raw = raw_of(alloc, words)?;
@@ -47,7 +48,7 @@ fn statement_of_raw<'a>(
     alloc: Global,
     builder: &Builder,
     raw: &Raw<'a>,
-) -> Result<NewStatement<'a>, LineError>
+) -> Result<NewStatement<'a>, LineError<CircuitCause>>
     requires { AreWhole (stated raw.now) }
     ensures { Gives (λ s. s) result (resolved builder.now (stated raw.now)) }
 {

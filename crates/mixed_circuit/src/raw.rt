@@ -2,17 +2,17 @@ ghost use Rattle.std.specs.Prelude.{◌≡◌, ◌≤◌, ◌^◌, nat_lt, map, 
 ghost use Rattle.text_lines.specs.Word.{number_of};
 ghost use Rattle.mixed_circuit.specs.declared.cause.CircuitCause.TheVariants.{BadNumber};
 ghost use Rattle.mixed_language.specs.declared.language.Slot.TheVariants.{Operand};
-ghost use Rattle.mixed_circuit.specs.Gives.{Gives};
+ghost use Rattle.text_lines.specs.Gives.{Gives};
 ghost use Rattle.mixed_circuit.specs.Line.{letter_of, is_letter_of, is_spelled, each_spelled, are_spelled, operation_of, no_parts, number_within, with_word, with_words, parts_of};
 ghost use Rattle.text_lines.specs.Chain.{or_cause, unless};
 ghost use Rattle.mixed_circuit.specs.Stated.{stated};
 
-use crate::cause::{CircuitCause, LineError};
+use crate::cause::CircuitCause;
 use mixed_language::{Operation, Slot};
 use mot_base::MAX_WIDTH;
 use share_types::Sharing;
 use std::alloc::Global;
-use text_lines::{is_name_word, number};
+use text_lines::{LineError, check, is_name_word, number};
 
 /// What the words of a line state: names, a letter, and numbers.
 #[derive(Drop)]
@@ -27,16 +27,9 @@ pub struct Raw<'a> {
     pub constant: u64,
 }
 
-/// A cause, unless a test passes.
-pub fn check(passes: bool, cause: CircuitCause) -> Result<(), CircuitCause>
-    ensures { result ≡ unless cause passes }
-{
-    if passes { Ok(()) } else { Err(cause) }
-}
-
 /// What the words of a line state.
 #[tactic(auto, unfolding(crate::specs::Line::parts_of))]
-pub fn raw_of<'a>(alloc: Global, words: &[&'a [u8]]) -> Result<Raw<'a>, LineError>
+pub fn raw_of<'a>(alloc: Global, words: &[&'a [u8]]) -> Result<Raw<'a>, LineError<CircuitCause>>
     ensures { Gives stated result (parts_of (map (λ word. word.now) words.entry.now)) }
 {
     let operation = operation_said(words).ok_or(CircuitCause::Word)?;
@@ -138,7 +131,11 @@ fn letter(word: &[u8]) -> Option<Sharing>
 }
 
 /// What words state in their slots, beside what is stated already.
-fn with_all<'a>(raw: Raw<'a>, slots: &[Slot], words: &[&'a [u8]]) -> Result<Raw<'a>, LineError>
+fn with_all<'a>(
+    raw: Raw<'a>,
+    slots: &[Slot],
+    words: &[&'a [u8]],
+) -> Result<Raw<'a>, LineError<CircuitCause>>
     ensures { Gives stated result (or_cause BadNumber (with_words (stated raw.entry) slots.now (map (λ
         word. word.now) words.entry.now))) }
 {
@@ -154,7 +151,11 @@ fn with_all<'a>(raw: Raw<'a>, slots: &[Slot], words: &[&'a [u8]]) -> Result<Raw<
 
 /// What a word states in its slot, beside what is stated already.
 #[tactic(auto, unfolding(crate::specs::Line::with_word))]
-fn with_one<'a>(raw: Raw<'a>, slot: Slot, word: &'a [u8]) -> Result<Raw<'a>, LineError>
+fn with_one<'a>(
+    raw: Raw<'a>,
+    slot: Slot,
+    word: &'a [u8],
+) -> Result<Raw<'a>, LineError<CircuitCause>>
     ensures { Gives stated result (or_cause BadNumber (with_word (stated raw.entry) slot word.entry.now)) }
 {
     match slot {
@@ -190,7 +191,7 @@ fn with_one<'a>(raw: Raw<'a>, slot: Slot, word: &'a [u8]) -> Result<Raw<'a>, Lin
 
 /// What a word states as the name of an operand, beside what is stated already.
 #[tactic(auto, unfolding(crate::specs::Line::with_word))]
-fn with_operand<'a>(mut raw: Raw<'a>, word: &'a [u8]) -> Result<Raw<'a>, LineError>
+fn with_operand<'a>(mut raw: Raw<'a>, word: &'a [u8]) -> Result<Raw<'a>, LineError<CircuitCause>>
     ensures { Gives stated result (or_cause BadNumber (with_word (stated raw.entry) Operand word.entry.now)) }
 {
     raw.operands.push(word)?;

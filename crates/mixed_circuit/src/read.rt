@@ -1,19 +1,19 @@
 ghost use Rattle.std.specs.Prelude.{◌≡◌, ◌≤◌, ◌+◌, length, map, IfOk, IfErr, IfSome};
 ghost use Rattle.mot_base.specs.Limits.{least_parties, most_parties, most_file_bytes};
 ghost use Rattle.mixed_circuit.specs.Grammar.{is_title, parties_of, behind_words, behind_content, behind, whole, Reads, IsFirstFault, EachReadsOrFaults};
-ghost use Rattle.mixed_circuit.specs.Gives.{Gives};
+ghost use Rattle.text_lines.specs.Gives.{Gives};
 ghost use Rattle.mixed_circuit.specs.Reading.{error_at, GivesAt};
 ghost use Rattle.mixed_circuit.specs.Says.{ReadsWhatIsSaid};
 ghost use Rattle.mixed_circuit.specs.Line.{OneOperation};
 
 use crate::builder::Builder;
-use crate::cause::{CircuitCause, CircuitError, LineError};
+use crate::cause::{CircuitCause, CircuitError};
 use crate::line::with_line;
-use crate::raw::{check, number_from_to};
+use crate::raw::number_from_to;
 use mixed_language::Mixed;
 use mot_base::{MAX_PARTIES, MIN_PARTIES};
 use std::alloc::Global;
-use text_lines::{Lines, are_allowed, line_words_of};
+use text_lines::{LineError, Lines, are_allowed, check, line_words_of};
 
 /// How far a circuit's text was read.
 #[derive(Drop)]
@@ -85,19 +85,17 @@ fn behind_next<'a>(
     *number += 1;
     match behind_line(alloc, text, stage, line) {
         Ok(next) => Ok(next),
-        Err(error) => Err(error.at(*number)),
+        Err(error) => Err(at_line(*number, error)),
     }
 }
 
-impl LineError {
-    /// The error of a line, whose number is given.
-    fn at(self, line: u32) -> CircuitError
-        ensures { result ≡ error_at line self }
-    {
-        match self {
-            LineError::Shows(cause) => CircuitError::At { line, cause },
-            LineError::NoMemory => CircuitError::NoMemory,
-        }
+/// The error of a line.
+fn at_line(line: u32, error: LineError<CircuitCause>) -> CircuitError
+    ensures { result ≡ error_at line error }
+{
+    match error {
+        LineError::Shows(cause) => CircuitError::At { line, cause },
+        LineError::NoMemory => CircuitError::NoMemory,
     }
 }
 
@@ -108,7 +106,7 @@ fn behind_line<'a>(
     text: &'a [u8],
     stage: Stage<'a>,
     line: &'a [u8],
-) -> Result<Stage<'a>, LineError>
+) -> Result<Stage<'a>, LineError<CircuitCause>>
     ensures { Gives (λ s. s) result (behind stage.entry line.entry.now) }
 {
     check(are_allowed(line), CircuitCause::NotText)?;
@@ -122,7 +120,7 @@ fn behind_words_of<'a>(
     text: &'a [u8],
     stage: Stage<'a>,
     words: &[&'a [u8]],
-) -> Result<Stage<'a>, LineError>
+) -> Result<Stage<'a>, LineError<CircuitCause>>
     ensures { Gives (λ s. s) result (behind_content stage.entry (map (λ word. word.now) words.entry.now)) }
 {
     if words.is_empty() {
@@ -139,7 +137,7 @@ fn behind_some_words<'a>(
     text: &'a [u8],
     stage: Stage<'a>,
     words: &[&'a [u8]],
-) -> Result<Stage<'a>, LineError>
+) -> Result<Stage<'a>, LineError<CircuitCause>>
     ensures { Gives (λ s. s) result (behind_words stage.entry (map (λ word. word.now) words.entry.now)) }
 {
     match stage {
