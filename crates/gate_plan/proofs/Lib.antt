@@ -1,12 +1,6 @@
+pub mod StandLemmas
+pub mod NumberLemmas
+pub mod OperationLemmas
+pub mod FitLemmas
 pub mod HandledLemmas
-pub mod ValidLemmas
-pub mod GatesLemmas
-pub mod StepLemmas
 pub mod BuiltLemmas
-pub mod KeepsLemmas
-pub mod BristolCountLemmas
-pub mod BristolBitLemmas
-pub mod BristolWireLemmas
-pub mod BristolPlanLemmas
-pub mod BristolKeepsLemmas
-pub mod BristolCodeLemmas
