@@ -19,7 +19,7 @@ use Rattle.mixed_language.specs.declared.language.Widths.TheVariants.{Cut, Joine
 use Rattle.mixed_language.specs.Language.{domain_of, widths_of, is_in, gives, arity_of, states, is_name_slot, is_width_slot}
 use Rattle.mixed_language.specs.Operands.{width_by, alike_width}
 use Rattle.mixed_language.specs.Wide.{IsWide}
-use Rattle.plan_gates.specs.Gate as plan
+use Rattle.plan_gates.specs.Gate as planned
 use Rattle.plan_gates.specs.Gate.{Kind, Gate, Given, Word, Vector, gate_of, InA, ConstA, AddA, SubA, AddConstA, MulConstA, MulA, OutA, InB, ConstB, XorB, XorConstB, SliceB, JoinB, AndB, OutB}
 use Rattle.plan_gates.specs.Plan.{Gates, IsGate}
 use Rattle.gate_plan.specs.Blocks.{one, Stand}
@@ -155,7 +155,7 @@ module _ (plan : Gates) (n : ℕ) where
   abbrev FitsAlone : Kind → ℕ → Given → Type 0
   FitsAlone kind w given = AllGates plan n (gate_of kind w ∷ []) × IsValue plan.gates (n + 1) given n w
 
-  alone : (kind : Kind) (w : ℕ) (given : Given) → Stand plan.gates n (gate_of kind w ∷ []) → plan.gives kind ≡ given →
+  alone : (kind : Kind) (w : ℕ) (given : Given) → Stand plan.gates n (gate_of kind w ∷ []) → planned.gives kind ≡ given →
       IsGate plan n (gate_of kind w) → FitsAlone kind w given
   alone kind w given stand is gate =
       (all_one plan n (gate_of kind w) gate, own_value plan.gates n (gate_of kind w) given (first_of plan.gates n (gate_of kind w) [] stand) is)

@@ -4,3 +4,7 @@ pub mod OperationLemmas
 pub mod FitLemmas
 pub mod HandledLemmas
 pub mod BuiltLemmas
+pub mod PlanLemmas
+pub mod ValidLemmas
+pub mod KeepsLemmas
+pub mod StatementLemmas

@@ -112,7 +112,9 @@ pub fn push_block(
     requires wide { IsWide wire }
     requires built { is_conversion (shape_of form).operation ≡ false }
     requires constant { (shape_of form).operation ≡ ConstBits → (shape_of form).width ≡ width_of wire }
-    requires room { length draft.old.gates < most_gates }
+    requires room { length draft.old.gates
+        + length (block_of (shape_of form).operation false (source_from (shape_of form) x y k (Some wire))
+        (length draft.old.gates)).gates ≤ most_gates }
     ensures next { OnOk result (draft.new ≡ with_gates draft.old
         (block_of (shape_of form).operation false (source_from (shape_of form) x y k (Some wire))
         (length draft.old.gates)).gates) }

@@ -1,0 +1,212 @@
+-- The plan of a circuit whose statements are built is valid.
+use Rattle.std.proofs.Common.{ℕ, zero, suc, ◌≡◌, ◌<◌, ◌≤◌, ◌+◌, true, false, cond, List, [], ◌∷◌, length, map, take, Option, Some, None, inl, inr, refl, sym, ◌∙◌, ap, subst, arith}
+use Rattle.std.specs.Prelude.{slice_get, slice_index, IfSome, option_map}
+use Rattle.std.specs.Option.{unwrap_or}
+use Rattle.std.proofs.lemmas.Bool.{cases_lt}
+use Rattle.std.proofs.lemmas.Option.{slice_get-map}
+use Rattle.mot_base.specs.Limits.{most_gates}
+use Rattle.mot_base.proofs.Lists.{same_some, inside_of, some_at, index_at, taken_at}
+use Rattle.share_types.specs.declared.sharing.Sharing.{Sharing}
+use Rattle.share_types.specs.declared.sharing.Sharing.TheVariants.{A, B, Y}
+use Rattle.share_types.specs.declared.sharing.WireType.{WireType}
+use Rattle.share_types.specs.Wires.{sharing_of, wire_type, width_of, party_told}
+use Rattle.mixed_language.specs.declared.language.Operation.{Operation}
+use Rattle.mixed_language.specs.declared.language.Operation.TheVariants.{Output}
+use Rattle.mixed_language.specs.declared.operand.Operand.{Operand}
+use Rattle.mixed_language.specs.Language.{gives, states, is_name_slot, arity_of}
+use Rattle.mixed_language.specs.Circuit.{Circuit, Statement, wire_at}
+use Rattle.mixed_language.specs.Valid.{IsStatement, IsCircuit}
+use Rattle.mixed_language.specs.Table.{told_value, receiver_of}
+use Rattle.mixed_language.proofs.WidthLemmas.{circuit_wide}
+use Rattle.plan_gates.specs.Plan.{Gates, IsGate, IsPlan}
+use Rattle.gate_plan.specs.declared.wire.Wire.{Wire}
+use Rattle.gate_plan.specs.Blocks.{Lowered, single}
+use Rattle.gate_plan.specs.Lowering.{block_of, operand_wire, lowered_to, lowered, wire_handled, width_handled, handled_by, is_keys, is_word, all_built, all_gates}
+use Rattle.gate_plan.proofs.StandLemmas.{IsValue, later, AllGates, all_none, all_both}
+use Rattle.gate_plan.proofs.OperationLemmas.{Named, Names, Tells, named}
+use Rattle.gate_plan.proofs.FitLemmas.{given_of, shared_same, Sound, fit, output_fits, one_operand}
+use Rattle.gate_plan.proofs.BuiltLemmas.{is_plain, handled_own, statement_of}
+use Rattle.gate_plan.proofs.PlanLemmas.{start, source, block, next, stands, wire_in, next_start, count}
+
+party_some : (parties : ℕ) (o : Option ℕ) → 0 < parties → IfSome o (λ party. party < parties) → unwrap_or o 0 < parties
+party_some parties None h f = h
+party_some parties (Some party) h f = f
+
+told_some : (parties : ℕ) (o : Option ℕ) → IfSome o (λ party. party < parties) →
+    IfSome (party_told (receiver_of o)) (λ party. party < parties)
+told_some parties None f = tt
+told_some parties (Some party) f = f
+
+own_sharing : (given : Sharing) (width : ℕ) → sharing_of (wire_type given width) ≡ given
+own_sharing A width = refl
+own_sharing B width = refl
+own_sharing Y width = refl
+
+module _ (c : Circuit) (circuit : IsCircuit c) (built : all_built c ≡ true) where
+  abbrev all : List Statement
+  all = c.statements
+
+  abbrev plan : Gates
+  plan = lowered c
+
+  -- each value of the statements before a place is given by the gate of its wire
+  pub record AreValues (n : ℕ) : Type 0 where
+    pub at : (x : ℕ) (t : Statement) (w : WireType) → x < n → slice_get all x ≡ Some t → t.wire ≡ Some w →
+        IsValue plan.gates (start c n) (given_of (sharing_of w)) (block c x t).wire.gate (width_of w)
+
+  module _ (n : ℕ) (s : Statement) (there : slice_get all n ≡ Some s) where
+    pub row : IsStatement c.parties (take n all) s
+    row = circuit.each n s there
+
+    pub operand_place : (i : ℕ) (o : Operand) → slice_get row.operands i ≡ Some o → slice_get s.shape.operands i ≡ Some o.at
+    operand_place i o e =
+        ap (λ xs. slice_get xs i) row.places ∙ (slice_get-map (λ (x : Operand). x.at) row.operands i ∙ ap (option_map (λ (x : Operand). x.at)) e)
+
+    -- an operand is the value of an earlier statement, and has its wire
+    pub record IsEarlier (i : ℕ) (o : Operand) : Type 0 where
+      pub statement : Statement
+      pub below : o.at < n
+      pub there_at : slice_get all o.at ≡ Some statement
+      pub own : statement.wire ≡ Some o.wire
+      pub wired : operand_wire (lowered_to c n).wires (slice_get s.shape.operands i) ≡ (block c o.at statement).wire
+
+    pub earlier : (i : ℕ) (o : Operand) → slice_get row.operands i ≡ Some o → IsEarlier i o
+    earlier i o e =
+        let found = statement_of (slice_get (take n all) o.at) o.wire (row.uses.found i o e) in
+        let place = taken_at all n o.at found.0 found.1 in
+        record {
+          statement = found.0;
+          below = place.0;
+          there_at = place.1;
+          own = found.2;
+          wired = ap (operand_wire (lowered_to c n).wires) (operand_place i o e)
+              ∙ ap (λ a. unwrap_or a (single 0)) (wire_in c o.at n found.0 built place.1 place.0);
+        }
+
+    operand_value : AreValues n → (i : ℕ) (o : Operand) → slice_get row.operands i ≡ Some o →
+        IsValue plan.gates (start c n) (given_of row.sharing) (operand_wire (lowered_to c n).wires (slice_get s.shape.operands i)).gate (width_of o.wire)
+    operand_value values i o e =
+        let t = earlier i o e in
+        let is = values.at o.at t.statement o.wire t.below t.there_at t.own in
+        subst (λ (a : Wire). IsValue plan.gates (start c n) (given_of row.sharing) a.gate (width_of o.wire)) (sym t.wired)
+        (subst (λ (given : Sharing). IsValue plan.gates (start c n) (given_of given) (block c o.at t.statement).wire.gate (width_of o.wire))
+        (shared_same row.sharing o.wire (row.uses.shared i o e)) is)
+
+    sound : AreValues n → Sound plan (start c n) s.shape.operation row.sharing (source c n s) s.shape.width row.operands row.width
+    sound values = record {
+      arity = row.arity;
+      wide = row.wide;
+      shared = row.uses.shared;
+      x = λ o e. operand_value values 0 o e;
+      y = λ o e. operand_value values 1 o e;
+      party = party_some c.parties s.shape.party (let some = circuit.some_parties in omega arith) row.numbers.party;
+      to = told_some c.parties s.shape.party row.numbers.party;
+      constant = row.numbers.fits;
+      bare = row.numbers.no_width;
+    }
+
+    -- how the value is shared that an output tells
+    pub record IsTold : Type 0 where
+      pub operand : Operand
+      pub first : slice_get row.operands 0 ≡ Some operand
+      pub place : told_value s ≡ operand.at
+      pub handled : wire_handled all s ≡ Some operand.wire
+      pub unnamed : s.wire ≡ None
+
+    pub told : s.shape.operation ≡ Output → IsTold
+    told e =
+        let t = one_operand row.operands (row.arity ∙ ap arity_of e) in
+        let is = earlier 0 t.x t.first in
+        let place = index_at s.shape.operands 0 t.x.at (operand_place 0 t.x t.first) in
+        record {
+          operand = t.x;
+          first = t.first;
+          place = place;
+          handled = ap (λ op. handled_by op (wire_at all (told_value s)) s.wire) e ∙ (ap (wire_at all) place ∙ rw is.there_at is.own);
+          unnamed = row.wire ∙ ap (λ b. cond b (Some (wire_type (gives s.shape.operation row.sharing) row.width)) None) (ap (states is_name_slot) e);
+        }
+
+    -- the gates of the statement may stand, and give its value, if it has one
+    record IsNext : Type 0 where
+      gates : AllGates plan (start c n) (block c n s).gates
+      value : (w : WireType) → s.wire ≡ Some w → IsValue plan.gates (start c (suc n)) (given_of (sharing_of w)) (block c n s).wire.gate (width_of w)
+
+    is_next : AreValues n → Named s.shape.operation → IsNext
+    is_next values (Names e untold) =
+        let op = s.shape.operation in
+        let w = wire_type (gives op row.sharing) row.width in
+        let own : s.wire ≡ Some w = row.wire ∙ rw e refl in
+        let handled = (handled_own c n s w circuit there own).0 in
+        let wide = circuit_wide c circuit n w (rw there own) in
+        let some = wide.0 in
+        let most = wide.1 in
+        let same : (source c n s).width ≡ width_of w = ap width_handled handled in
+        let is = is_plain c n s built there in
+        let f = fit plan (start c n) op row.sharing (source c n s) s.shape.width row.operands row.width row.domain e is.direct
+        (ap is_keys (sym handled) ∙ is.open_wire) (sound values) (omega (arith, some, same)) (omega (arith, most, same)) same
+        (stands c n s built there) in
+        let a = (block c n s).wire.gate in
+        let at_end = subst (λ k. IsValue plan.gates k (given_of (gives op row.sharing)) a (source c n s).width) (sym (next_start c n s built there)) f.value in
+        let as_wide = subst (IsValue plan.gates (start c (suc n)) (given_of (gives op row.sharing)) a) same at_end in
+        let as_given = subst (λ (g : Sharing). IsValue plan.gates (start c (suc n)) (given_of g) a (width_of w)) (sym (own_sharing (gives op row.sharing) row.width)) as_wide in
+        record {
+          gates = f.gates;
+          value = λ u f. subst (λ (v : WireType). IsValue plan.gates (start c (suc n)) (given_of (sharing_of v)) a (width_of v)) (same_some w u (sym own ∙ f)) as_given;
+        }
+    is_next values (Tells e) =
+        let t = told e in
+        let w = t.operand.wire in
+        let is = is_plain c n s built there in
+        let before = earlier 0 t.operand t.first in
+        let wide = circuit_wide c circuit t.operand.at w (rw before.there_at before.own) in
+        let value = operand_value values 0 t.operand t.first in
+        let shared = shared_same row.sharing w (row.uses.shared 0 t.operand t.first) in
+        let known = subst (λ (g : Sharing). IsValue plan.gates (start c n) (given_of g) (source c n s).x.gate (width_of w)) (sym shared) value in
+        record {
+          gates = subst (λ op. AllGates plan (start c n) (block_of op false (source c n s) (start c n)).gates) (sym e)
+              (output_fits plan (start c n) (source c n s) w known (ap is_keys (sym t.handled) ∙ is.open_wire) wide
+              (told_some c.parties s.shape.party row.numbers.party) (ap is_word t.handled) (ap width_handled t.handled));
+          value = λ u own. let contrary = sym own ∙ t.unnamed in cc;
+        }
+
+  pub record IsValidTo (n : ℕ) : Type 0 where
+    pub values : AreValues n
+    pub gates : AllGates plan 0 (lowered_to c n).gates
+
+  values_next : (n : ℕ) (s : Statement) (there : slice_get all n ≡ Some s) → AreValues n → IsNext n s there → AreValues (suc n)
+  values_next n s there before step = record { at = at }
+    where
+      at : (x : ℕ) (t : Statement) (w : WireType) → x < suc n → slice_get all x ≡ Some t → t.wire ≡ Some w →
+          IsValue plan.gates (start c (suc n)) (given_of (sharing_of w)) (block c x t).wire.gate (width_of w)
+      at x t w below here own = elim (cases_lt x n) as (λ _. IsValue plan.gates (start c (suc n)) (given_of (sharing_of w)) (block c x t).wire.gate (width_of w)) [
+        | inl small ↦
+            (let more = next_start c n s built there in
+            later (start c (suc n)) (omega (arith, more)) (before.at x t w small here own))
+        | inr large ↦
+            (let place : n ≡ x = omega (arith, below, large) in
+            let same : s ≡ t = same_some s t (sym there ∙ (ap (slice_get all) place ∙ here)) in
+            let is = step.value w (ap (λ (u : Statement). u.wire) same ∙ own) in
+            subst (λ k. IsValue plan.gates (start c (suc n)) (given_of (sharing_of w)) (block c k t).wire.gate (width_of w)) place
+            (subst (λ (u : Statement). IsValue plan.gates (start c (suc n)) (given_of (sharing_of w)) (block c n u).wire.gate (width_of w)) same is))
+      ]
+
+  pub valid_to : (n : ℕ) → n ≤ length all → IsValidTo n
+  valid_to zero h = record { values = record { at = λ x t w below here own. absurd (omega (arith, below)) }; gates = all_none plan 0 }
+  valid_to (suc n) h =
+      let here = some_at all n (omega (arith, h)) in
+      let before = valid_to n (omega (arith, h)) in
+      let step = is_next n here.0 here.1 before.values (named here.0.shape.operation) in
+      record {
+        values = values_next n here.0 here.1 before.values step;
+        gates = subst (λ (l : Lowered). AllGates plan 0 l.gates) (sym (next c n here.0 built here.1))
+            (all_both plan 0 (lowered_to c n).gates (start c n) (block c n here.0).gates (omega arith) before.gates step.gates);
+      }
+
+  pub lowered_is_plan : all_gates c ≤ most_gates → IsPlan (lowered c)
+  lowered_is_plan few = record {
+    some_parties = circuit.some_parties;
+    most_parties = circuit.most_parties;
+    few = (let all = count c (length c.statements) built (omega arith) in omega (arith, all, few));
+    each = λ g gate there.
+        subst (λ k. IsGate (lowered c) k gate) (omega arith) ((valid_to (length c.statements) (omega arith)).gates.each g gate there);
+  }
