@@ -8,3 +8,10 @@ pub mod PlanLemmas
 pub mod ValidLemmas
 pub mod KeepsLemmas
 pub mod StatementLemmas
+pub mod BristolCountLemmas
+pub mod BristolBitLemmas
+pub mod BristolWireLemmas
+pub mod BristolPlanLemmas
+pub mod BristolValidLemmas
+pub mod BristolKeepsLemmas
+pub mod BristolCodeLemmas
