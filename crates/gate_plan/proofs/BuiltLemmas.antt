@@ -35,15 +35,17 @@ test_at test (y ∷ ys) (suc n) x all e = test_at test ys n x (both_true (test y
 
 -- ---- a statement that is built
 
-pub record IsPlain (all : List Statement) (s : Statement) : Type 0 where
-  pub direct : is_conversion s.shape.operation ≡ false
-  pub open_wire : is_keys (wire_handled all s) ≡ false
+pub built_at : (c : Circuit) (at : ℕ) (s : Statement) → all_built c ≡ true → slice_get c.statements at ≡ Some s → is_built c.statements s ≡ true
+built_at c at s built there = test_at (is_built c.statements) c.statements at s built there
 
-pub is_plain : (c : Circuit) (at : ℕ) (s : Statement) → all_built c ≡ true → slice_get c.statements at ≡ Some s → IsPlain c.statements s
-is_plain c at s built there =
-    let all = c.statements in
-    let parts = both_true (not (is_conversion s.shape.operation)) (not (is_keys (wire_handled all s))) (test_at (is_built all) all at s built there) in
-    record { direct = not_true (is_conversion s.shape.operation) parts.0; open_wire = not_true (is_keys (wire_handled all s)) parts.1 }
+-- it converts nothing, and what it handles is not shared as keys
+pub converts_nothing : (all : List Statement) (s : Statement) → is_built all s ≡ true → is_conversion s.shape.operation ≡ false
+converts_nothing all s built =
+    not_true (is_conversion s.shape.operation) (both_true (not (is_conversion s.shape.operation)) (not (is_keys (wire_handled all s))) built).0
+
+pub handles_no_keys : (all : List Statement) (s : Statement) → is_built all s ≡ true → is_keys (wire_handled all s) ≡ false
+handles_no_keys all s built =
+    not_true (is_keys (wire_handled all s)) (both_true (not (is_conversion s.shape.operation)) (not (is_keys (wire_handled all s))) built).1
 
 -- a value is what its own statement handles
 pub handled_own : (c : Circuit) (at : ℕ) (s : Statement) (w : WireType) → IsCircuit c → slice_get c.statements at ≡ Some s → s.wire ≡ Some w →

@@ -23,7 +23,7 @@ use Rattle.plan_gates.specs.Gate as planned
 use Rattle.plan_gates.specs.Gate.{Kind, Gate, Given, Word, Vector, gate_of, InA, ConstA, AddA, SubA, AddConstA, MulConstA, MulA, OutA, InB, ConstB, XorB, XorConstB, SliceB, JoinB, AndB, OutB}
 use Rattle.plan_gates.specs.Plan.{Gates, IsGate}
 use Rattle.gate_plan.specs.Blocks.{one, Stand}
-use Rattle.gate_plan.specs.Lowering.{Source, block_of, is_conversion, is_keys, is_word}
+use Rattle.gate_plan.specs.Lowering.{Source, block_of, is_operation_built, is_keys, is_word}
 use Rattle.gate_plan.proofs.StandLemmas.{first_of, IsValue, value_width, value_operand, own_value, bits_gate, word_gate, AllGates, all_one}
 
 -- what the gate of a value gives that is shared so
@@ -147,9 +147,9 @@ module _ (plan : Gates) (n : ℕ) (op : Operation) (v : Source) (stated : ℕ) (
 
 module _ (plan : Gates) (n : ℕ) where
   -- the gates of an operation may stand where they do, and give its value
-  pub record IsFit (op : Operation) (given : Sharing) (v : Source) : Type 0 where
-    pub gates : AllGates plan n (block_of op false v n).gates
-    pub value : IsValue plan.gates (n + length (block_of op false v n).gates) (given_of (gives op given)) (block_of op false v n).wire.gate v.width
+  pub record IsFit (op : Operation) (keys : Bool) (given : Sharing) (v : Source) : Type 0 where
+    pub gates : AllGates plan n (block_of op keys v n).gates
+    pub value : IsValue plan.gates (n + length (block_of op keys v n).gates) (given_of (gives op given)) (block_of op keys v n).wire.gate v.width
 
   -- both of one gate
   abbrev FitsAlone : Kind → ℕ → Given → Type 0
@@ -160,80 +160,81 @@ module _ (plan : Gates) (n : ℕ) where
   alone kind w given stand is gate =
       (all_one plan n (gate_of kind w) gate, own_value plan.gates n (gate_of kind w) given (first_of plan.gates n (gate_of kind w) [] stand) is)
 
-  pub fit : (op : Operation) (given : Sharing) (v : Source) (stated : ℕ) (os : List Operand) (width : ℕ) →
-      is_in (domain_of op) given ≡ true → states is_name_slot op ≡ true → is_conversion op ≡ false →
-      is_keys (Some (wire_type (gives op given) width)) ≡ false → Sound plan n op given v stated os width →
+  pub fit : (op : Operation) (keys : Bool) (given : Sharing) (v : Source) (stated : ℕ) (os : List Operand) (width : ℕ) →
+      is_in (domain_of op) given ≡ true → states is_name_slot op ≡ true → is_operation_built op keys ≡ true →
+      keys ≡ is_keys (Some (wire_type (gives op given) width)) → Sound plan n op given v stated os width →
       1 ≤ v.width → v.width ≤ most_width → v.width ≡ width_of (wire_type (gives op given) width) →
-      Stand plan.gates n (block_of op false v n).gates → IsFit op given v
-  fit InputWord A v stated os width domain names direct plain sound some most same stand =
+      Stand plan.gates n (block_of op keys v n).gates → IsFit op keys given v
+  fit InputWord keys A v stated os width domain names built alike sound some most same stand =
       let f = alone (InA v.party v.k) v.width Word stand refl (word_gate plan n (InA v.party v.k) v.width same (pow_pos v.width) tt tt sound.party) in
       record { gates = f.0; value = f.1 }
-  fit InputBits B v stated os width domain names direct plain sound some most same stand =
+  fit InputBits false B v stated os width domain names built alike sound some most same stand =
       let f = alone (InB v.party v.k 0) v.width Vector stand refl (bits_gate plan n (InB v.party v.k 0) v.width (λ e. cc) some most (pow_pos v.width) tt tt sound.party) in
       record { gates = f.0; value = f.1 }
-  fit ConstWord A v stated os width domain names direct plain sound some most same stand =
+  fit ConstWord keys A v stated os width domain names built alike sound some most same stand =
       let f = alone (ConstA v.constant) v.width Word stand refl (word_gate plan n (ConstA v.constant) v.width same (subst (λ (k : ℕ). v.constant < 2 ^ k) (sound.bare refl ∙ sym same) sound.constant) tt tt tt) in
       record { gates = f.0; value = f.1 }
-  fit ConstBits B v stated os width domain names direct plain sound some most same stand =
+  fit ConstBits false B v stated os width domain names built alike sound some most same stand =
       let f = alone (ConstB v.constant) v.width Vector stand refl (bits_gate plan n (ConstB v.constant) v.width (λ e. cc) some most (subst (λ (k : ℕ). v.constant < 2 ^ k) (same_some stated width sound.wide ∙ sym same) sound.constant) tt tt tt) in
       record { gates = f.0; value = f.1 }
-  fit Add A v stated os width domain names direct plain sound some most same stand =
+  fit Add keys A v stated os width domain names built alike sound some most same stand =
       let u = two_words plan n Add v stated os width sound sound.arity same in
       let f = alone (AddA v.x.gate v.y.gate) v.width Word stand refl (word_gate plan n (AddA v.x.gate v.y.gate) v.width same (pow_pos v.width) (value_operand u.0, (value_operand u.1, tt)) (value_width u.0, (value_width u.1, tt)) tt) in
       record { gates = f.0; value = f.1 }
-  fit Sub A v stated os width domain names direct plain sound some most same stand =
+  fit Sub keys A v stated os width domain names built alike sound some most same stand =
       let u = two_words plan n Sub v stated os width sound sound.arity same in
       let f = alone (SubA v.x.gate v.y.gate) v.width Word stand refl (word_gate plan n (SubA v.x.gate v.y.gate) v.width same (pow_pos v.width) (value_operand u.0, (value_operand u.1, tt)) (value_width u.0, (value_width u.1, tt)) tt) in
       record { gates = f.0; value = f.1 }
-  fit Mul A v stated os width domain names direct plain sound some most same stand =
+  fit Mul keys A v stated os width domain names built alike sound some most same stand =
       let u = two_words plan n Mul v stated os width sound sound.arity same in
       let f = alone (MulA v.x.gate v.y.gate) v.width Word stand refl (word_gate plan n (MulA v.x.gate v.y.gate) v.width same (pow_pos v.width) (value_operand u.0, (value_operand u.1, tt)) (value_width u.0, (value_width u.1, tt)) tt) in
       record { gates = f.0; value = f.1 }
-  fit AddConst A v stated os width domain names direct plain sound some most same stand =
+  fit AddConst keys A v stated os width domain names built alike sound some most same stand =
       let u = one_word plan n AddConst v stated os width sound sound.arity same in
       let f = alone (AddConstA v.x.gate v.constant) v.width Word stand refl (word_gate plan n (AddConstA v.x.gate v.constant) v.width same (subst (λ (k : ℕ). v.constant < 2 ^ k) (sound.bare refl ∙ sym same) sound.constant) (value_operand u, tt) (value_width u, tt) tt) in
       record { gates = f.0; value = f.1 }
-  fit MulConst A v stated os width domain names direct plain sound some most same stand =
+  fit MulConst keys A v stated os width domain names built alike sound some most same stand =
       let u = one_word plan n MulConst v stated os width sound sound.arity same in
       let f = alone (MulConstA v.x.gate v.constant) v.width Word stand refl (word_gate plan n (MulConstA v.x.gate v.constant) v.width same (subst (λ (k : ℕ). v.constant < 2 ^ k) (sound.bare refl ∙ sym same) sound.constant) (value_operand u, tt) (value_width u, tt) tt) in
       record { gates = f.0; value = f.1 }
-  fit Xor B v stated os width domain names direct plain sound some most same stand =
+  fit Xor false B v stated os width domain names built alike sound some most same stand =
       let u = two_vectors plan n Xor v stated os width sound sound.arity sound.wide same in
       let f = alone (XorB v.x.gate v.y.gate) v.width Vector stand refl (bits_gate plan n (XorB v.x.gate v.y.gate) v.width (λ e. cc) some most (pow_pos v.width) (value_operand u.0, (value_operand u.1, tt)) (value_width u.0, (value_width u.1, tt)) tt) in
       record { gates = f.0; value = f.1 }
-  fit And B v stated os width domain names direct plain sound some most same stand =
+  fit And false B v stated os width domain names built alike sound some most same stand =
       let u = two_vectors plan n And v stated os width sound sound.arity sound.wide same in
       let f = alone (AndB v.x.gate v.y.gate) v.width Vector stand refl (bits_gate plan n (AndB v.x.gate v.y.gate) v.width (λ e. cc) some most (pow_pos v.width) (value_operand u.0, (value_operand u.1, tt)) (value_width u.0, (value_width u.1, tt)) tt) in
       record { gates = f.0; value = f.1 }
-  fit Not B v stated os width domain names direct plain sound some most same stand =
+  fit Not false B v stated os width domain names built alike sound some most same stand =
       let u = one_vector plan n Not v stated os width sound sound.arity sound.wide same in
       let f = alone (XorConstB v.x.gate (2 ^ v.width - 1)) v.width Vector stand refl (bits_gate plan n (XorConstB v.x.gate (2 ^ v.width - 1)) v.width (λ e. cc) some most (pow-sub-lt v.width (omega arith)) (value_operand u, tt) (value_width u, tt) tt) in
       record { gates = f.0; value = f.1 }
-  fit Slice B v stated os width domain names direct plain sound some most same stand =
+  fit Slice false B v stated os width domain names built alike sound some most same stand =
       let u = cut_vector plan n Slice v stated os width sound sound.arity sound.wide same in
       let f = alone (SliceB v.x.gate v.place) v.width Vector stand refl (bits_gate plan n (SliceB v.x.gate v.place) v.width (λ e. cc) some most (pow_pos v.width) (value_operand u.1, tt) ((let low = value_width u.1 in let within = u.2 in omega arith), tt) tt) in
       record { gates = f.0; value = f.1 }
-  fit Join B v stated os width domain names direct plain sound some most same stand =
+  fit Join false B v stated os width domain names built alike sound some most same stand =
       let u = joined_vectors plan n Join v stated os width sound sound.arity sound.wide same in
       let f = alone (JoinB v.x.gate v.y.gate) v.width Vector stand refl (bits_gate plan n (JoinB v.x.gate v.y.gate) v.width (λ e. cc) some most (pow_pos v.width) (value_operand u.2, (value_operand u.3, tt)) (let low = value_width u.2 in let high = value_width u.3 in let both = u.4 in omega arith) tt) in
       record { gates = f.0; value = f.1 }
-  fit _ _ v stated os width domain names direct plain sound some most same stand = cc
+  fit _ _ _ v stated os width domain names built alike sound some most same stand = cc
 
   -- the gate of an output may stand behind the value that it tells
-  pub output_fits : (v : Source) (w : WireType) → IsValue plan.gates n (given_of (sharing_of w)) v.x.gate (width_of w) → is_keys (Some w) ≡ false →
-      IsWide w → IfSome (party_told v.to) (λ party. party < plan.parties) → v.is_word ≡ is_word (Some w) → v.width ≡ width_of w →
-      AllGates plan n (block_of Output false v n).gates
-  output_fits v w is plain wide to word same =
+  pub output_fits : (keys : Bool) (v : Source) (w : WireType) → is_operation_built Output keys ≡ true → keys ≡ is_keys (Some w) →
+      IsValue plan.gates n (given_of (sharing_of w)) v.x.gate (width_of w) → IsWide w → IfSome (party_told v.to) (λ party. party < plan.parties) →
+      v.is_word ≡ is_word (Some w) → v.width ≡ width_of w → AllGates plan n (block_of Output keys v n).gates
+  output_fits true v w built alike is wide to word same = cc
+  output_fits false v w built alike is wide to word same =
       all_one plan n (gate_of (cond v.is_word (OutA v.x.gate v.to) (OutB v.x.gate v.to)) v.width)
-      (subst (λ (b : Bool). IsGate plan n (gate_of (cond b (OutA v.x.gate v.to) (OutB v.x.gate v.to)) v.width)) (sym word) (by_sharing w is plain wide same))
+      (subst (λ (b : Bool). IsGate plan n (gate_of (cond b (OutA v.x.gate v.to) (OutB v.x.gate v.to)) v.width)) (sym word) (by_sharing w alike is wide same))
     where
-      by_sharing : (w : WireType) → IsValue plan.gates n (given_of (sharing_of w)) v.x.gate (width_of w) → is_keys (Some w) ≡ false → IsWide w →
+      by_sharing : (w : WireType) → false ≡ is_keys (Some w) → IsValue plan.gates n (given_of (sharing_of w)) v.x.gate (width_of w) → IsWide w →
           v.width ≡ width_of w → IsGate plan n (gate_of (cond (is_word (Some w)) (OutA v.x.gate v.to) (OutB v.x.gate v.to)) v.width)
-      by_sharing wire.A is plain wide same =
+      by_sharing wire.A alike is wide same =
           word_gate plan n (OutA v.x.gate v.to) v.width same (pow_pos v.width) (value_operand is, tt) (value_width is ∙ sym same, tt) to
-      by_sharing (wire.B width) is plain wide same =
+      by_sharing (wire.B width) alike is wide same =
           let some = wide.0 in
           let most = wide.1 in
           bits_gate plan n (OutB v.x.gate v.to) v.width (λ e. cc) (omega (arith, some, same)) (omega (arith, most, same)) (pow_pos v.width)
           (value_operand is, tt) (value_width is ∙ sym same, tt) to
-      by_sharing (wire.Y width) is plain wide same = cc
+      by_sharing (wire.Y width) alike is wide same = cc

@@ -32,12 +32,12 @@ use Rattle.plan_gates.specs.Plain.{Outside, plain_numbers, GateTold, told_entry}
 use Rattle.plan_gates.specs.Plain as plain
 use Rattle.gate_plan.specs.declared.wire.Wire.{Wire}
 use Rattle.gate_plan.specs.Blocks.{Lowered, AreNumbers}
-use Rattle.gate_plan.specs.Lowering.{block_of, lowered_to, lowered, operand_wire, wires_of, all_built, all_gates, wire_handled, width_handled}
+use Rattle.gate_plan.specs.Lowering.{block_of, lowered_to, lowered, operand_wire, wires_of, all_built, all_gates, wire_handled, width_handled, is_keys}
 use Rattle.gate_plan.specs.Keeps.{unnamed, KeepsValues, KeepsEvaluation}
 use Rattle.gate_plan.proofs.StandLemmas.{value_width}
 use Rattle.gate_plan.proofs.NumberLemmas.{length_plain, plans_have_numbers, told_from, told_by_place, told_append, told_nothing}
 use Rattle.gate_plan.proofs.OperationLemmas.{Named, Names, Tells, named, block_silent, Alike, law}
-use Rattle.gate_plan.proofs.BuiltLemmas.{is_plain, handled_own, statement_of}
+use Rattle.gate_plan.proofs.BuiltLemmas.{built_at, handles_no_keys, handled_own, statement_of}
 use Rattle.gate_plan.proofs.PlanLemmas.{start, source, block, next, stands, wire_in}
 use Rattle.gate_plan.proofs.ValidLemmas.{row, operand_place, IsEarlier, earlier, IsTold, told, AreValues, valid_to, lowered_is_plan}
 
@@ -170,10 +170,13 @@ module _ (c : Circuit) (circuit : IsCircuit c) (built : all_built c ≡ true) (v
         ap₂ (λ (m w : ℕ). m % 2 ^ w) made (ap (λ o. unwrap_or (option_map width_of o) most_width) t.unnamed)
         ∙ (mod-eq_of_lt (omega (arith, small, more)) ∙ ap (slice_index values) (sym t.place))
 
+    abbrev keys : Bool
+    keys = is_keys (wire_handled all s)
+
     -- the number of the statement's gate is its value
     gate_value : AreKept n → slice_get numbers (block c n s).wire.gate ≡ slice_get values n
     gate_value kept =
-        law gates outside numbers are s.shape.operation (source c n s) (start c n) seen (is_plain c n s built there).direct (alike kept) (stands c n s built there)
+        law gates outside numbers are s.shape.operation keys (source c n s) (start c n) seen (built_at c n s built there) (alike kept) (stands c n s there)
         ∙ (ap (λ (k : ℕ). Some k) (by_name (named s.shape.operation)) ∙ sym (evaluated.each n s there))
       where
         by_name : Named s.shape.operation →
@@ -195,19 +198,20 @@ module _ (c : Circuit) (circuit : IsCircuit c) (built : all_built c ≡ true) (v
         by_name : Named s.shape.operation → told_from (block c n s).gates (start c n) numbers ≡ map unnamed (told_by all values s)
         by_name (Names e untold) =
             told_nothing (block c n s).gates (start c n) numbers
-            (block_silent s.shape.operation (source c n s) (start c n) (is_plain c n s built there).direct untold)
+            (block_silent s.shape.operation keys (source c n s) (start c n) (built_at c n s built there) untold)
             ∙ sym (ap (λ b. map unnamed (cond b (tell ∷ []) [])) untold)
         by_name (Tells e) =
             let t = told c circuit built n s there e in
             let is = earlier c circuit built n s there 0 t.operand t.first in
             let wired : wire_at all t.operand.at ≡ Some t.operand.wire = rw is.there_at is.own in
+            let unkeyed = handles_no_keys all s (built_at c n s built there) in
             let wide : (source c n s).width ≡ table.width_at all (told_value s) =
             ap width_handled t.handled ∙ sym (ap (λ x. table.width_at all x) t.place ∙ ap (λ w. unwrap_or (option_map width_of w) 0) wired) in
             let number : slice_index numbers (start c n) ≡ slice_index values (told_value s) =
             index_at numbers (start c n) _
-            (subst (λ op. slice_get numbers (block_of op false (source c n s) (start c n)).wire.gate ≡ slice_get values n) e (gate_value kept) ∙ evaluated.each n s there)
+            (sym (ap₂ (λ op b. slice_get numbers (block_of op b (source c n s) (start c n)).wire.gate) e unkeyed) ∙ (gate_value kept ∙ evaluated.each n s there))
             ∙ told_value_is e in
-            ap (λ op. told_from (block_of op false (source c n s) (start c n)).gates (start c n) numbers) e
+            ap₂ (λ op b. told_from (block_of op b (source c n s) (start c n)).gates (start c n) numbers) e unkeyed
             ∙ (either (source c n s).is_word
             ∙ (ap₂ (λ (w k : ℕ). record { to = receiver_of s.shape.party; bits = bits w k } ∷ []) wide number
             ∙ sym (ap (λ op. map unnamed (cond (states is_told_slot op) (tell ∷ []) [])) e)))
@@ -236,7 +240,7 @@ module _ (c : Circuit) (circuit : IsCircuit c) (built : all_built c ≡ true) (v
       let kept = kept_to n (omega (arith, h)) in
       let place : 0 + start c n ≡ start c n = omega arith in
       let later : suc n ≡ n + 1 = omega arith in
-      ap (λ (l : Lowered). told_from l.gates 0 numbers) (next c n here.0 built here.1)
+      ap (λ (l : Lowered). told_from l.gates 0 numbers) (next c n here.0 here.1)
       ∙ (told_append (lowered_to c n).gates (block c n here.0).gates 0 numbers
       ∙ (ap₂ (λ (ts us : List GateTold). ts ++ us) (told_to n (omega (arith, h)))
       (ap (λ k. told_from (block c n here.0).gates k numbers) place ∙ gate_told n here.0 here.1 kept)
@@ -254,7 +258,7 @@ module _ (c : Circuit) (circuit : IsCircuit c) (built : all_built c ≡ true) (v
           let below : at < length all = omega arith in
           let here = some_at all at below in (
             (block c at here.0).wire,
-            wire_in c at (length all) here.0 built here.1 below,
+            wire_in c at (length all) here.0 here.1 below,
             kept_to (length all) (omega arith) at here.0 below here.1 ∙ e,
           )
 

@@ -12,7 +12,7 @@ use Rattle.mixed_language.specs.Eval as eval
 use Rattle.plan_gates.specs.Gate.{Kind, Gate, gate_of, InA, ConstA, AddA, SubA, AddConstA, MulConstA, MulA, OutA, InB, ConstB, XorB, XorConstB, SliceB, JoinB, AndB, OutB, width_at}
 use Rattle.plan_gates.specs.Plain.{Outside, number_of, seen_of}
 use Rattle.gate_plan.specs.Blocks.{one, Stand, AreNumbers}
-use Rattle.gate_plan.specs.Lowering.{Source, block_of, gates_of, is_conversion, handled_by}
+use Rattle.gate_plan.specs.Lowering.{Source, block_of, gates_of, is_operation_built, handled_by}
 use Rattle.gate_plan.proofs.StandLemmas.{first_of}
 use Rattle.gate_plan.proofs.NumberLemmas.{IsSilent}
 
@@ -30,27 +30,29 @@ own_handled Output told own e = cc
 own_handled _ told own e = refl
 
 -- the gates are as many as the table of counts says
-pub block_count : (parties : ℕ) (op : Operation) (v : Source) (n : ℕ) → is_conversion op ≡ false →
-    length (block_of op false v n).gates ≡ gates_of parties op false
-block_count parties A2Y v n direct = cc
-block_count parties A2B v n direct = cc
-block_count parties B2Y v n direct = cc
-block_count parties Y2B v n direct = cc
-block_count parties B2A v n direct = cc
-block_count parties Y2A v n direct = cc
-block_count parties _ v n direct = refl
+pub block_count : (parties : ℕ) (op : Operation) (keys : Bool) (v : Source) (n : ℕ) → is_operation_built op keys ≡ true →
+    length (block_of op keys v n).gates ≡ gates_of parties op keys
+block_count parties A2Y keys v n built = cc
+block_count parties A2B keys v n built = cc
+block_count parties B2Y keys v n built = cc
+block_count parties Y2B keys v n built = cc
+block_count parties B2A keys v n built = cc
+block_count parties Y2A keys v n built = cc
+block_count parties _ false v n built = refl
+block_count parties _ true v n built = cc
 
 -- the gates of a value tell nothing
-pub block_silent : (op : Operation) (v : Source) (n : ℕ) → is_conversion op ≡ false → states is_told_slot op ≡ false →
-    AllByRecursion IsSilent (block_of op false v n).gates
-block_silent A2Y v n direct untold = cc
-block_silent A2B v n direct untold = cc
-block_silent B2Y v n direct untold = cc
-block_silent Y2B v n direct untold = cc
-block_silent B2A v n direct untold = cc
-block_silent Y2A v n direct untold = cc
-block_silent Output v n direct untold = cc
-block_silent _ v n direct untold = (refl, tt)
+pub block_silent : (op : Operation) (keys : Bool) (v : Source) (n : ℕ) → is_operation_built op keys ≡ true → states is_told_slot op ≡ false →
+    AllByRecursion IsSilent (block_of op keys v n).gates
+block_silent A2Y keys v n built untold = cc
+block_silent A2B keys v n built untold = cc
+block_silent B2Y keys v n built untold = cc
+block_silent Y2B keys v n built untold = cc
+block_silent B2A keys v n built untold = cc
+block_silent Y2A keys v n built untold = cc
+block_silent Output keys v n built untold = cc
+block_silent _ false v n built untold = (refl, tt)
+block_silent _ true v n built untold = cc
 
 -- ---- the number of the value
 
@@ -71,40 +73,40 @@ module _ (gates : List Gate) (outside : Outside) (numbers : List ℕ) (are : Are
   made n w kind number stand is =
       are n (gate_of kind w) (first_of gates n (gate_of kind w) [] stand) ∙ ap (λ (k : ℕ). Some (k % 2 ^ w)) (sym is)
 
-  pub law : (op : Operation) (v : Source) (n : ℕ) (e : eval.Seen) → is_conversion op ≡ false → Alike op v e →
-      Stand gates n (block_of op false v n).gates →
-      slice_get numbers (block_of op false v n).wire.gate ≡ Some (number_made op e % 2 ^ v.width)
-  law InputWord v n e direct a stand = made n v.width (InA v.party v.k) (number_made InputWord e) stand a.input
-  law InputBits v n e direct a stand =
+  pub law : (op : Operation) (keys : Bool) (v : Source) (n : ℕ) (e : eval.Seen) → is_operation_built op keys ≡ true → Alike op v e →
+      Stand gates n (block_of op keys v n).gates →
+      slice_get numbers (block_of op keys v n).wire.gate ≡ Some (number_made op e % 2 ^ v.width)
+  law InputWord keys v n e built a stand = made n v.width (InA v.party v.k) (number_made InputWord e) stand a.input
+  law InputBits false v n e built a stand =
       made n v.width (InB v.party v.k 0) (number_made InputBits e) stand (a.input ∙ sym (div-one (slice_index outside.inputs v.k)))
-  law ConstWord v n e direct a stand = made n v.width (ConstA v.constant) (number_made ConstWord e) stand a.constant
-  law ConstBits v n e direct a stand = made n v.width (ConstB v.constant) (number_made ConstBits e) stand a.constant
-  law Add v n e direct a stand =
+  law ConstWord keys v n e built a stand = made n v.width (ConstA v.constant) (number_made ConstWord e) stand a.constant
+  law ConstBits false v n e built a stand = made n v.width (ConstB v.constant) (number_made ConstBits e) stand a.constant
+  law Add keys v n e built a stand =
       made n v.width (AddA v.x.gate v.y.gate) (number_made Add e) stand (ap₂ (λ p q. p + q) (a.x (omega arith)) (a.y (omega arith)))
-  law Sub v n e direct a stand =
+  law Sub keys v n e built a stand =
       made n v.width (SubA v.x.gate v.y.gate) (number_made Sub e) stand (ap₂ (λ p q. word_difference p q) (a.x (omega arith)) (a.y (omega arith)))
-  law Mul v n e direct a stand =
+  law Mul keys v n e built a stand =
       made n v.width (MulA v.x.gate v.y.gate) (number_made Mul e) stand (ap₂ (λ p q. p * q) (a.x (omega arith)) (a.y (omega arith)))
-  law AddConst v n e direct a stand =
+  law AddConst keys v n e built a stand =
       made n v.width (AddConstA v.x.gate v.constant) (number_made AddConst e) stand (ap₂ (λ p q. p + q) (a.x (omega arith)) a.constant)
-  law MulConst v n e direct a stand =
+  law MulConst keys v n e built a stand =
       made n v.width (MulConstA v.x.gate v.constant) (number_made MulConst e) stand (ap₂ (λ p q. p * q) (a.x (omega arith)) a.constant)
-  law Xor v n e direct a stand =
+  law Xor false v n e built a stand =
       made n v.width (XorB v.x.gate v.y.gate) (number_made Xor e) stand (ap₂ (λ p q. bit_xor p q) (a.x (omega arith)) (a.y (omega arith)))
-  law And v n e direct a stand =
+  law And false v n e built a stand =
       made n v.width (AndB v.x.gate v.y.gate) (number_made And e) stand (ap₂ (λ p q. bit_and p q) (a.x (omega arith)) (a.y (omega arith)))
-  law Not v n e direct a stand =
+  law Not false v n e built a stand =
       made n v.width (XorConstB v.x.gate (2 ^ v.width - 1)) (number_made Not e) stand
       (ap₂ (λ p w. bit_xor p (2 ^ w - 1)) (a.x (omega arith)) (a.width refl))
-  law Slice v n e direct a stand =
+  law Slice false v n e built a stand =
       made n v.width (SliceB v.x.gate v.place) (number_made Slice e) stand (ap₂ (λ p q. p / 2 ^ q) (a.x (omega arith)) a.place)
-  law Join v n e direct a stand =
+  law Join false v n e built a stand =
       made n v.width (JoinB v.x.gate v.y.gate) (number_made Join e) stand
       (ap₂ (λ p q. p + q) (a.x (omega arith)) (ap₂ (λ l q. 2 ^ l * q) (a.low (omega arith)) (a.y (omega arith))))
-  law Output v n e direct a stand =
+  law Output false v n e built a stand =
       made n v.width (cond v.is_word (OutA v.x.gate v.to) (OutB v.x.gate v.to)) (number_made Output e) stand (either v.is_word)
     where
       either : (b : Bool) → e.x ≡ number_of (cond b (OutA v.x.gate v.to) (OutB v.x.gate v.to)) (seen_of gates outside numbers (cond b (OutA v.x.gate v.to) (OutB v.x.gate v.to)))
       either true = a.x (omega arith)
       either false = a.x (omega arith)
-  law _ v n e direct a stand = cc
+  law _ _ v n e built a stand = cc

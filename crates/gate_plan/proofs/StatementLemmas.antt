@@ -19,8 +19,8 @@ use Rattle.gate_plan.specs.declared.wire.Wire.{Wire}
 use Rattle.gate_plan.specs.Blocks.{Block, Lowered}
 use Rattle.gate_plan.specs.Lowering.{block_of, operand_wire, source_from, lowered_to, draft_to, wire_handled, all_built, all_gates}
 use Rattle.gate_plan.proofs.OperationLemmas.{Named, Names, Tells, named}
-use Rattle.gate_plan.proofs.BuiltLemmas.{handled_own}
-use Rattle.gate_plan.proofs.PlanLemmas.{start, block, next, next_start, count, gates_rise}
+use Rattle.gate_plan.proofs.BuiltLemmas.{built_at, handles_no_keys, handled_own}
+use Rattle.gate_plan.proofs.PlanLemmas.{start, source, block, next, next_start, count, gates_rise}
 use Rattle.gate_plan.proofs.ValidLemmas.{told}
 
 -- what follows from what an `Ok` has
@@ -76,9 +76,10 @@ module _ (c : Circuit) (circuit : IsCircuit c) (built : all_built c ≡ true) (n
       ap₂ (λ (p q : Wire). block_of shape.operation false (source_from shape p q k (Some w)) (length draft.gates)) first second
       ∙ (ap₂ (λ (m : ℕ) (o : Option WireType). block_of shape.operation false (source_from shape a b m o) (length draft.gates)) inputs wired
       ∙ (ap (λ (p : Gates). block_of shape.operation false (source_from shape a b (length (inputs_of (take n all))) (wire_handled all s)) (length p.gates)) before
-      ∙ ap (λ (sh : Shape). block_of sh.operation false
+      ∙ (ap (λ (sh : Shape). block_of sh.operation false
       (source_from sh (operand_wire wires (slice_get sh.operands 0)) (operand_wire wires (slice_get sh.operands 1)) (length (inputs_of (take n all))) (wire_handled all s))
-      (start c n)) (sym same)))
+      (start c n)) (sym same)
+      ∙ ap (λ keys. block_of s.shape.operation keys (source c n s) (start c n)) (sym (handles_no_keys all s (built_at c n s built there))))))
 
   -- and room for it
   pub room : (draft : Gates) (made : Block) → all_gates c ≤ most_gates → draft ≡ draft_to c n → made ≡ block c n s → length draft.gates + length made.gates ≤ most_gates
@@ -86,7 +87,7 @@ module _ (c : Circuit) (circuit : IsCircuit c) (built : all_built c ≡ true) (n
       let within = inside_of all n s there in
       let first = ap (λ (p : Gates). length p.gates) before in
       let own = ap (λ (b : Block). length b.gates) is in
-      let more = next_start c n s built there in
+      let more = next_start c n s there in
       let all_to = count c (suc n) built (omega (arith, within)) in
       let rise = gates_rise c (suc n) (length all) (omega (arith, within)) in
       omega (arith, few, first, own, more, all_to, rise)
@@ -98,14 +99,14 @@ module _ (c : Circuit) (circuit : IsCircuit c) (built : all_built c ≡ true) (n
       let later : suc n ≡ n + 1 = omega arith in
       more
       ∙ (ap₂ (λ (p : Gates) (b : Block). with_gates p b.gates) before is
-      ∙ (ap (λ (l : Lowered). record { parties = c.parties; gates = l.gates }) (sym (next c n s built there)) ∙ ap (draft_to c) later))
+      ∙ (ap (λ (l : Lowered). record { parties = c.parties; gates = l.gates }) (sym (next c n s there)) ∙ ap (draft_to c) later))
 
   pub wires_next : (wires : List Wire) (wire : Wire) (made : Block) → wires ≡ (lowered_to c n).wires → made ≡ block c n s → wire ≡ made.wire →
       wires ++ wire ∷ [] ≡ (lowered_to c (n + 1)).wires
   wires_next wires wire made before is own =
       let later : suc n ≡ n + 1 = omega arith in
       ap₂ (λ (ws : List Wire) (w : Wire). ws ++ w ∷ []) before (own ∙ ap (λ (b : Block). b.wire) is)
-      ∙ (ap (λ (l : Lowered). l.wires) (sym (next c n s built there)) ∙ ap (λ k. (lowered_to c k).wires) later)
+      ∙ (ap (λ (l : Lowered). l.wires) (sym (next c n s there)) ∙ ap (λ k. (lowered_to c k).wires) later)
 
 -- what is told of the statement at a place, if it is there
 pub shape_here : (statements : List Statement) (at : ℕ) (s : Statement) (shape : Shape) → slice_get statements at ≡ Some s →

@@ -21,11 +21,11 @@ use Rattle.mixed_language.proofs.WidthLemmas.{circuit_wide}
 use Rattle.plan_gates.specs.Plan.{Gates, IsGate, IsPlan}
 use Rattle.gate_plan.specs.declared.wire.Wire.{Wire}
 use Rattle.gate_plan.specs.Blocks.{Lowered, single}
-use Rattle.gate_plan.specs.Lowering.{block_of, operand_wire, lowered_to, lowered, wire_handled, width_handled, handled_by, is_keys, is_word, all_built, all_gates}
+use Rattle.gate_plan.specs.Lowering.{block_of, operand_wire, lowered_to, lowered, wire_handled, width_handled, handled_by, is_keys, is_word, is_operation_built, all_built, all_gates}
 use Rattle.gate_plan.proofs.StandLemmas.{IsValue, later, AllGates, all_none, all_both}
 use Rattle.gate_plan.proofs.OperationLemmas.{Named, Names, Tells, named}
 use Rattle.gate_plan.proofs.FitLemmas.{given_of, shared_same, Sound, fit, output_fits, one_operand}
-use Rattle.gate_plan.proofs.BuiltLemmas.{is_plain, handled_own, statement_of}
+use Rattle.gate_plan.proofs.BuiltLemmas.{built_at, handled_own, statement_of}
 use Rattle.gate_plan.proofs.PlanLemmas.{start, source, block, next, stands, wire_in, next_start, count}
 
 party_some : (parties : ℕ) (o : Option ℕ) → 0 < parties → IfSome o (λ party. party < parties) → unwrap_or o 0 < parties
@@ -80,7 +80,7 @@ module _ (c : Circuit) (circuit : IsCircuit c) (built : all_built c ≡ true) wh
           there_at = place.1;
           own = found.2;
           wired = ap (operand_wire (lowered_to c n).wires) (operand_place i o e)
-              ∙ ap (λ a. unwrap_or a (single 0)) (wire_in c o.at n found.0 built place.1 place.0);
+              ∙ ap (λ a. unwrap_or a (single 0)) (wire_in c o.at n found.0 place.1 place.0);
         }
 
     operand_value : AreValues n → (i : ℕ) (o : Operand) → slice_get row.operands i ≡ Some o →
@@ -141,12 +141,11 @@ module _ (c : Circuit) (circuit : IsCircuit c) (built : all_built c ≡ true) wh
         let some = wide.0 in
         let most = wide.1 in
         let same : (source c n s).width ≡ width_of w = ap width_handled handled in
-        let is = is_plain c n s built there in
-        let f = fit plan (start c n) op row.sharing (source c n s) s.shape.width row.operands row.width row.domain e is.direct
-        (ap is_keys (sym handled) ∙ is.open_wire) (sound values) (omega (arith, some, same)) (omega (arith, most, same)) same
-        (stands c n s built there) in
+        let f = fit plan (start c n) op (is_keys (wire_handled all s)) row.sharing (source c n s) s.shape.width row.operands row.width row.domain e
+        (built_at c n s built there) (ap is_keys handled) (sound values) (omega (arith, some, same)) (omega (arith, most, same)) same
+        (stands c n s there) in
         let a = (block c n s).wire.gate in
-        let at_end = subst (λ k. IsValue plan.gates k (given_of (gives op row.sharing)) a (source c n s).width) (sym (next_start c n s built there)) f.value in
+        let at_end = subst (λ k. IsValue plan.gates k (given_of (gives op row.sharing)) a (source c n s).width) (sym (next_start c n s there)) f.value in
         let as_wide = subst (IsValue plan.gates (start c (suc n)) (given_of (gives op row.sharing)) a) same at_end in
         let as_given = subst (λ (g : Sharing). IsValue plan.gates (start c (suc n)) (given_of g) a (width_of w)) (sym (own_sharing (gives op row.sharing) row.width)) as_wide in
         record {
@@ -156,15 +155,15 @@ module _ (c : Circuit) (circuit : IsCircuit c) (built : all_built c ≡ true) wh
     is_next values (Tells e) =
         let t = told e in
         let w = t.operand.wire in
-        let is = is_plain c n s built there in
         let before = earlier 0 t.operand t.first in
         let wide = circuit_wide c circuit t.operand.at w (rw before.there_at before.own) in
         let value = operand_value values 0 t.operand t.first in
         let shared = shared_same row.sharing w (row.uses.shared 0 t.operand t.first) in
+        let keys = is_keys (wire_handled all s) in
         let known = subst (λ (g : Sharing). IsValue plan.gates (start c n) (given_of g) (source c n s).x.gate (width_of w)) (sym shared) value in
         record {
-          gates = subst (λ op. AllGates plan (start c n) (block_of op false (source c n s) (start c n)).gates) (sym e)
-              (output_fits plan (start c n) (source c n s) w known (ap is_keys (sym t.handled) ∙ is.open_wire) wide
+          gates = subst (λ op. AllGates plan (start c n) (block_of op keys (source c n s) (start c n)).gates) (sym e)
+              (output_fits plan (start c n) keys (source c n s) w (subst (λ op. is_operation_built op keys ≡ true) e (built_at c n s built there)) (ap is_keys t.handled) known wide
               (told_some c.parties s.shape.party row.numbers.party) (ap is_word t.handled) (ap width_handled t.handled));
           value = λ u own. let contrary = sym own ∙ t.unnamed in cc;
         }
@@ -180,7 +179,7 @@ module _ (c : Circuit) (circuit : IsCircuit c) (built : all_built c ≡ true) wh
           IsValue plan.gates (start c (suc n)) (given_of (sharing_of w)) (block c x t).wire.gate (width_of w)
       at x t w below here own = elim (cases_lt x n) as (λ _. IsValue plan.gates (start c (suc n)) (given_of (sharing_of w)) (block c x t).wire.gate (width_of w)) [
         | inl small ↦
-            (let more = next_start c n s built there in
+            (let more = next_start c n s there in
             later (start c (suc n)) (omega (arith, more)) (before.at x t w small here own))
         | inr large ↦
             (let place : n ≡ x = omega (arith, below, large) in
@@ -198,7 +197,7 @@ module _ (c : Circuit) (circuit : IsCircuit c) (built : all_built c ≡ true) wh
       let step = is_next n here.0 here.1 before.values (named here.0.shape.operation) in
       record {
         values = values_next n here.0 here.1 before.values step;
-        gates = subst (λ (l : Lowered). AllGates plan 0 l.gates) (sym (next c n here.0 built here.1))
+        gates = subst (λ (l : Lowered). AllGates plan 0 l.gates) (sym (next c n here.0 here.1))
             (all_both plan 0 (lowered_to c n).gates (start c n) (block c n here.0).gates (omega arith) before.gates step.gates);
       }
 

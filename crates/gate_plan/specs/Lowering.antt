@@ -73,9 +73,13 @@ is_conversion B2A = true
 is_conversion Y2A = true
 is_conversion _ = false
 
+-- whether an operation is built, where its value or what it tells is shared as keys or not
+abbrev pub is_operation_built : Operation → Bool → Bool
+is_operation_built operation keys = not (is_conversion operation) && not keys
+
 -- neither takes nor gives a value that is shared as keys, and converts none
 abbrev pub is_built : List Statement → Statement → Bool
-is_built all s = not (is_conversion s.shape.operation) && not (is_keys (wire_handled all s))
+is_built all s = is_operation_built s.shape.operation (is_keys (wire_handled all s))
 
 abbrev pub all_built : Circuit → Bool
 all_built c = list_all (is_built c.statements) c.statements

@@ -62,7 +62,15 @@ fn push_value(draft: &mut Draft, party: Party, k: u32, width: u32) -> Result<(),
 {
     for at in 0..width {
         let width = 1;
-        push_bit(draft, GateKind::InB { party, k, at, width })?;
+        push_bit(
+            draft,
+            GateKind::InB {
+                party,
+                k,
+                at,
+                width,
+            },
+        )?;
     }
     Ok(())
 }
@@ -155,7 +163,12 @@ fn push_kind(
             let x = input_wire(wires, ins, 0).gate;
             push_bit(draft, GateKind::XorConstB { x, c: bit(1) })
         }
-        BristolKind::Eq => push_bit(draft, GateKind::ConstB { c: bit(word_in(ins, 0)) }),
+        BristolKind::Eq => push_bit(
+            draft,
+            GateKind::ConstB {
+                c: bit(word_in(ins, 0)),
+            },
+        ),
         BristolKind::Eqw => Ok(()),
         BristolKind::Mand => push_ands(draft, wires, ins, outs),
     }
@@ -174,12 +187,7 @@ fn bit(word: u32) -> Bits
 }
 
 /// Adds so many ANDs, of which the one at place `i` takes input `i` and that which stands so many places behind it.
-fn push_ands(
-    draft: &mut Draft,
-    wires: &[Wire],
-    ins: &[u32],
-    count: usize,
-) -> Result<(), NoMemory>
+fn push_ands(draft: &mut Draft, wires: &[Wire], ins: &[u32], count: usize) -> Result<(), NoMemory>
     requires room { length draft.old.gates + count ≤ most_gates }
     ensures { OnOk result (draft.new ≡ with_gates draft.old (each count (λ i. bit_gate (AndB
         (wire_among wires.now (slice_index ins.now i)).gate

@@ -128,7 +128,16 @@ pub fn push_block(
         Form::InputA { party } => push_one(draft, GateKind::InA { party, k }, width),
         Form::InputB { party, .. } | Form::InputY { party, .. } => {
             let at = 0;
-            push_one(draft, GateKind::InB { party, k, at, width }, width)
+            push_one(
+                draft,
+                GateKind::InB {
+                    party,
+                    k,
+                    at,
+                    width,
+                },
+                width,
+            )
         }
         Form::ConstA { c } => push_one(draft, GateKind::ConstA { c }, width),
         Form::ConstB { c } | Form::ConstY { c } => push_one(draft, GateKind::ConstB { c }, width),

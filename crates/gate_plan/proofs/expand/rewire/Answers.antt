@@ -17,8 +17,7 @@ loop-out-preserved c =
     let k = c.loop-out.out-index in
     let out = get_or c.args.outs.now k 0 in
     let made : ℕ → Wire = output_wire c.args.kind c.args.x c.args.first in
-    let same = c.loop-out.invariant.0 in
-    (
+    let same = c.loop-out.invariant.0 in (
       omega arith,
       length-set c.loop-out.wires out c.output_wire.result ∙ c.loop-out.invariant.1,
       ap₂ (λ (ws : List Wire) (a : Wire). set ws out a) c.loop-out.invariant.2 (c.output_wire.ensures ∙ ap made same)

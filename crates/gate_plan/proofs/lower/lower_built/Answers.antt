@@ -35,8 +35,7 @@ loop-at-preserved c =
     let most = c.inputs_taken-inputs.ensures.most in
     let known = before.2 in
     let few = before.3 in
-    let all : c.loop-at.inputs + c.inputs_taken-inputs.result ≡ length (inputs_of (take (at + 1) statements)) = omega arith in
-    (
+    let all : c.loop-at.inputs + c.inputs_taken-inputs.result ≡ length (inputs_of (take (at + 1) statements)) = omega arith in (
       c.in_ok-wire.ensures.next,
       c.in_ok-push.ensures.items
           ∙ (ap (λ (ws : List Wire). ws ++ c.in_ok-wire.wire ∷ []) (sym c.deref.ensures.value) ∙ c.in_ok-wire.ensures.given),

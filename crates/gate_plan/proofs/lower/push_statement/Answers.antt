@@ -8,7 +8,7 @@ use Rattle.mixed_language.specs.Circuit.{Shape, shape_of}
 use Rattle.mixed_language.proofs.EvalLemmas.{of_statement}
 use Rattle.gate_plan.specs.declared.wire.Wire.{Wire}
 use Rattle.gate_plan.specs.Lowering.{wire_handled, is_conversion, operand_wire, lowered_to}
-use Rattle.gate_plan.proofs.BuiltLemmas.{is_plain}
+use Rattle.gate_plan.proofs.BuiltLemmas.{built_at, converts_nothing}
 use Rattle.gate_plan.proofs.StatementLemmas.{if_ok, handled, constant_width, code_block, room, draft_next, wires_next, shape_here}
 use Rattle.gate_plan.proofs.lower.push_statement.Goals as goal
 
@@ -17,7 +17,7 @@ push_block-requires-clause-built c =
     let circuit = c.args.circuit.now in
     let here = some_at circuit.statements c.args.at c.requires.at in
     let same = shape_here circuit.statements c.args.at here.0 (shape_of c.form-form.result) here.1 c.form-form.ensures.value in
-    subst (λ (sh : Shape). is_conversion sh.operation ≡ false) same (is_plain circuit c.args.at here.0 c.requires.built here.1).direct
+    subst (λ (sh : Shape). is_conversion sh.operation ≡ false) same (converts_nothing circuit.statements here.0 (built_at circuit c.args.at here.0 c.requires.built here.1))
 
 pub push_block-requires-clause-constant : goal.push_block-requires-clause-constant
 push_block-requires-clause-constant c =
