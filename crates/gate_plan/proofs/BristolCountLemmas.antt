@@ -9,12 +9,9 @@ use Rattle.bristol_reader.specs.declared.kind.BristolKind.{BristolKind}
 use Rattle.bristol_reader.specs.Circuit.{Gate, Circuit, is_among, are_apart}
 use Rattle.bristol_reader.specs.Line.{input_bound}
 use Rattle.bristol_reader.specs.Built.{IsCircuit}
+use Rattle.mot_base.proofs.Lists.{not_true}
 use Rattle.bristol_reader.proofs.MarkLemmas.{same_sym}
 use Rattle.gate_plan.specs.Bristol.{gates_of_kind, gates_of_gate}
-
-pub not_true : (b : Bool) → not b ≡ true → b ≡ false
-not_true true h = cc
-not_true false h = refl
 
 others : (ws : List ℕ) (w : ℕ) → is_among ws w ≡ false → AllByRecursion (λ v. (w == v) ≡ false) ws
 others [] w h = tt

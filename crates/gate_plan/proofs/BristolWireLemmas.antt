@@ -1,118 +1,80 @@
--- The gate of each wire, gate by gate.
-use Rattle.std.proofs.Common.{ℕ, zero, suc, ◌≡◌, ◌<◌, ◌≤◌, ◌+◌, Bool, true, false, not, ◌||◌, List, [], ◌∷◌, ◌++◌, length, take, get_or, set, cond, inl, inr, refl, sym, ◌∙◌, ap, arith}
-use Rattle.std.specs.Prelude.{◌==◌, slice_index}
-use Rattle.std.proofs.lemmas.Bool.{and_parts, or_parts, cases_eq, eq-eqb, ne_eqb, false≢true}
-use Rattle.std.proofs.lemmas.List.{take_more, length-set, length-take-le, get_or-set_same, get_or-set_other, take_all}
-use Rattle.std.proofs.lemmas.List.Folds.{list_any_at}
+-- The wire of each wire of a circuit, gate by gate.
+use Rattle.std.proofs.Common.{ℕ, zero, suc, ◌≡◌, ◌<◌, ◌≤◌, ◌+◌, Bool, true, false, not, List, [], ◌∷◌, ◌++◌, length, take, get_or, set, inl, inr, refl, sym, ◌∙◌, ap, arith}
+use Rattle.std.specs.Prelude.{◌==◌, slice_get}
+use Rattle.std.specs.Option.{unwrap_or}
+use Rattle.std.proofs.lemmas.Bool.{and_parts, or_parts, cases_eq, eqb-false}
+use Rattle.std.proofs.lemmas.List.{take_more, take_all, length-set, length-take-le, get_or-set_same, get_or-set_other}
+use Rattle.mot_base.proofs.Lists.{not_true, read_at}
 use Rattle.bristol_reader.specs.Circuit.{is_among, are_apart}
-use Rattle.bristol_reader.proofs.MarkLemmas.{not_apart, cut_at}
+use Rattle.gate_plan.specs.declared.wire.Wire.{Wire}
+use Rattle.gate_plan.specs.Blocks.{single, wire_among}
 use Rattle.gate_plan.specs.Bristol.{rewired}
-use Rattle.gate_plan.proofs.BristolCountLemmas.{not_true}
 
--- an output has its own gate
-pub rewired_out : (f : ℕ → ℕ) (outs : List ℕ) (first i : ℕ) → are_apart outs ≡ true → i < length outs →
-    rewired f outs first (get_or outs i 0) ≡ first + i
-rewired_out f [] first i apart h = absurd (omega arith)
-rewired_out f (o ∷ outs) first zero apart h =
-    ap (λ (b : Bool). cond b first (rewired f outs (first + 1) o)) (eq-eqb o o refl) ∙ omega arith
-rewired_out f (o ∷ outs) first (suc i) apart h =
-    let w = get_or outs i 0 in
-    let parts = and_parts (not (is_among outs o)) (are_apart outs) apart in
-    let among : is_among outs w ≡ true = list_any_at (λ x. x == w) outs i 0 (omega arith) (eq-eqb w w refl) in
-    let other : (o == w) ≡ false = elim (cases_eq o w) [
-      | inl e ↦ absurd (false≢true (sym (not_true (is_among outs o) parts.0) ∙ (ap (is_among outs) e ∙ among)))
-      | inr ne ↦ ne_eqb o w ne
-    ] in
-    ap (λ (b : Bool). cond b first (rewired f outs (first + 1) w)) other
-    ∙ (rewired_out f outs (first + 1) i parts.1 (omega arith) ∙ omega arith)
+-- a wire, as std reads a list
+among_is : (wires : List Wire) (w : ℕ) → wire_among wires w ≡ get_or wires w (single 0)
+among_is [] w = refl
+among_is (a ∷ wires) zero = refl
+among_is (a ∷ wires) (suc w) = among_is wires w
 
--- and any other wire the one that it had
-pub rewired_other : (f : ℕ → ℕ) (outs : List ℕ) (first w : ℕ) → is_among outs w ≡ false → rewired f outs first w ≡ f w
-rewired_other f [] first w h = refl
-rewired_other f (o ∷ outs) first w h =
-    let parts = or_parts (o == w) (is_among outs w) h in
-    ap (λ (b : Bool). cond b first (rewired f outs (first + 1) w)) parts.0 ∙ rewired_other f outs (first + 1) w parts.1
+-- a place keeps the wire that it is given
+set_same : (wires : List Wire) (w : ℕ) (a : Wire) → w < length wires → wire_among (set wires w a) w ≡ a
+set_same wires w a h = among_is (set wires w a) w ∙ get_or-set_same wires w a (single 0) h
+
+-- and each other place the one that it has
+set_other : (wires : List Wire) (at w : ℕ) (a : Wire) → (at == w) ≡ false → wire_among (set wires at a) w ≡ wire_among wires w
+set_other wires at w a other =
+    among_is (set wires at a) w
+    ∙ (get_or-set_other wires at w a (single 0) (λ e. eqb-false at w other (sym e)) ∙ sym (among_is wires w))
+
+pub length_rewired : (wires : List Wire) (outs : List ℕ) (made : ℕ → Wire) (i : ℕ) → length (rewired wires outs made i) ≡ length wires
+length_rewired wires [] made i = refl
+length_rewired wires (out ∷ outs) made i = length_rewired (set wires out (made i)) outs made (i + 1) ∙ length-set wires out (made i)
+
+-- a wire that is no output keeps what it has
+pub rewired_other : (wires : List Wire) (outs : List ℕ) (made : ℕ → Wire) (i w : ℕ) → is_among outs w ≡ false →
+    wire_among (rewired wires outs made i) w ≡ wire_among wires w
+rewired_other wires [] made i w h = refl
+rewired_other wires (out ∷ outs) made i w h =
+    let parts = or_parts (out == w) (is_among outs w) h in
+    rewired_other (set wires out (made i)) outs made (i + 1) w parts.1 ∙ set_other wires out w (made i) parts.0
+
+-- an output has its own
+pub rewired_out : (wires : List Wire) (outs : List ℕ) (made : ℕ → Wire) (i k : ℕ) → are_apart outs ≡ true → k < length outs →
+    ((j : ℕ) → j < length outs → get_or outs j 0 < length wires) →
+    wire_among (rewired wires outs made i) (get_or outs k 0) ≡ made (i + k)
+rewired_out wires [] made i k apart h range = absurd (omega (arith, h))
+rewired_out wires (out ∷ outs) made i zero apart h range =
+    let parts = and_parts (not (is_among outs out)) (are_apart outs) apart in
+    let place : i ≡ i + 0 = omega arith in
+    rewired_other (set wires out (made i)) outs made (i + 1) out (not_true (is_among outs out) parts.0)
+    ∙ (set_same wires out (made i) (range 0 (omega arith)) ∙ ap made place)
+rewired_out wires (out ∷ outs) made i (suc k) apart h range =
+    let parts = and_parts (not (is_among outs out)) (are_apart outs) apart in
+    let place : i + 1 + k ≡ i + suc k = omega arith in
+    let size = length-set wires out (made i) in
+    rewired_out (set wires out (made i)) outs made (i + 1) k parts.1 (omega (arith, h))
+    (λ j within. let low = range (suc j) (omega (arith, within)) in omega (arith, low, size))
+    ∙ ap made place
+
+-- ---- one output after another
 
 -- with one output more
-rewired_more : (f : ℕ → ℕ) (outs : List ℕ) (o first w : ℕ) →
-    rewired f (outs ++ o ∷ []) first w ≡ cond (is_among outs w) (rewired f outs first w) (cond (o == w) (first + length outs) (f w))
-rewired_more f [] o first w = let e : first ≡ first + 0 = omega arith in ap (λ n. cond (o == w) n (f w)) e
-rewired_more f (x ∷ outs) o first w =
-    ap (λ (n : ℕ). cond (x == w) first n) (rewired_more f outs o (first + 1) w)
-    ∙ either (x == w) (is_among outs w) (o == w)
-  where
-    either : (a b e : Bool) →
-        cond a first (cond b (rewired f outs (first + 1) w) (cond e (first + 1 + length outs) (f w)))
-        ≡ cond (a || b) (cond a first (rewired f outs (first + 1) w)) (cond e (first + length (x ∷ outs)) (f w))
-    either true b e = refl
-    either false true e = refl
-    either false false true = omega arith
-    either false false false = refl
+rewired_more : (wires : List Wire) (outs : List ℕ) (out : ℕ) (made : ℕ → Wire) (i : ℕ) →
+    rewired wires (outs ++ out ∷ []) made i ≡ set (rewired wires outs made i) out (made (i + length outs))
+rewired_more wires [] out made i = let place : i ≡ i + 0 = omega arith in ap (λ k. set wires out (made k)) place
+rewired_more wires (o ∷ outs) out made i =
+    let place : i + 1 + length outs ≡ i + suc (length outs) = omega arith in
+    let before = set wires o (made i) in
+    rewired_more before outs out made (i + 1) ∙ ap (λ k. set (rewired before outs made (i + 1)) out (made k)) place
 
--- ---- the numbers of the gates of all wires, as far as some outputs have theirs
+pub rewired_next : (wires : List Wire) (outs : List ℕ) (made : ℕ → Wire) (k : ℕ) → k < length outs →
+    rewired wires (take (k + 1) outs) made 0 ≡ set (rewired wires (take k outs) made 0) (get_or outs k 0) (made k)
+rewired_next wires outs made k h =
+    let count = length-take-le k outs (omega (arith, h)) in
+    let place : 0 + length (take k outs) ≡ k = omega (arith, count) in
+    ap (λ os. rewired wires os made 0) (take_more outs k 0 h)
+    ∙ (rewired_more wires (take k outs) (get_or outs k 0) made 0 ∙ ap (λ j. set (rewired wires (take k outs) made 0) (get_or outs k 0) (made j)) place)
 
-pub record IsRewired (old : List ℕ) (outs : List ℕ) (first k : ℕ) (now : List ℕ) : Type 0 where
-  pub count : length now ≡ length old
-  pub each : (w : ℕ) → w < length old → get_or now w 0 ≡ rewired (slice_index old) (take k outs) first w
-
-pub rewired_none : (old outs : List ℕ) (first : ℕ) → IsRewired old outs first 0 old
-rewired_none old outs first = record { count = refl; each = λ w h. refl }
-
-among_front : (outs : List ℕ) (k : ℕ) → are_apart outs ≡ true → k < length outs → is_among (take k outs) (get_or outs k 0) ≡ false
-among_front outs k apart h = by_test (is_among (take k outs) (get_or outs k 0)) refl
-  where
-    by_test : (b : Bool) → is_among (take k outs) (get_or outs k 0) ≡ b → is_among (take k outs) (get_or outs k 0) ≡ false
-    by_test true e = absurd (false≢true (sym (not_apart (take k outs) (get_or outs k 0) _ e) ∙ (sym (ap are_apart (cut_at outs k h)) ∙ apart)))
-    by_test false e = e
-
-pub rewired_next : (old outs now : List ℕ) (first k out : ℕ) → are_apart outs ≡ true → k < length outs → get_or outs k 0 ≡ out →
-    out < length old → IsRewired old outs first k now → IsRewired old outs first (k + 1) (set now out (first + k))
-rewired_next old outs now first k out apart h here inside is = record { count = length-set now out (first + k) ∙ is.count; each = at }
-  where
-    front : List ℕ
-    front = take k outs
-
-    more : take (k + 1) outs ≡ front ++ out ∷ []
-    more = take_more outs k 0 h ∙ ap (λ x. front ++ x ∷ []) here
-
-    new : is_among front out ≡ false
-    new = ap (is_among front) (sym here) ∙ among_front outs k apart h
-
-    f : ℕ → ℕ
-    f = slice_index old
-
-    goal : (w : ℕ) → rewired f (take (k + 1) outs) first w ≡ cond (is_among front w) (rewired f front first w) (cond (out == w) (first + k) (f w))
-    goal w =
-        ap (λ ws. rewired f ws first w) more
-        ∙ (rewired_more f front out first w
-        ∙ ap (λ n. cond (is_among front w) (rewired f front first w) (cond (out == w) (first + n) (f w))) (length-take-le k outs (omega (arith, h))))
-
-    kept_by : (w : ℕ) (b : Bool) → is_among front w ≡ b → (out == w) ≡ false →
-        rewired f front first w ≡ cond (is_among front w) (rewired f front first w) (cond (out == w) (first + k) (f w))
-    kept_by w true e ne = sym (ap (λ b. cond b (rewired f front first w) (cond (out == w) (first + k) (f w))) e)
-    kept_by w false e ne =
-        rewired_other f front first w e
-        ∙ sym (ap (λ b. cond b (rewired f front first w) (cond (out == w) (first + k) (f w))) e ∙ ap (λ b. cond b (first + k) (f w)) ne)
-
-    at : (w : ℕ) → w < length old → get_or (set now out (first + k)) w 0 ≡ rewired f (take (k + 1) outs) first w
-    at w within = elim (cases_eq out w) [
-      | inl e ↦
-          (let count = is.count in
-          ap (λ x. get_or (set now out (first + k)) x 0) (sym e)
-          ∙ (get_or-set_same now out (first + k) 0 (omega arith)
-          ∙ (sym (ap (λ b. cond b (rewired f front first out) (cond (out == out) (first + k) (f out))) new
-          ∙ ap (λ b. cond b (first + k) (f out)) (eq-eqb out out refl))
-          ∙ (sym (goal out) ∙ ap (rewired f (take (k + 1) outs) first) e))))
-      | inr ne ↦
-          (get_or-set_other now out w (first + k) 0 (λ e. ne (sym e))
-          ∙ (is.each w within ∙ (kept_by w (is_among front w) refl (ne_eqb out w ne) ∙ sym (goal w))))
-    ]
-
-pub rewired_all : (old outs now : List ℕ) (first k : ℕ) → length outs ≤ k → IsRewired old outs first k now →
-    (w : ℕ) → w < length old → get_or now w 0 ≡ rewired (slice_index old) outs first w
-rewired_all old outs now first k past is w h = is.each w h ∙ ap (λ ws. rewired (slice_index old) ws first w) (take_all k outs past)
-
--- the gates of the outputs rest on those of the wires alone
-pub rewired_same : (f g : ℕ → ℕ) (outs : List ℕ) (first w : ℕ) → f w ≡ g w → rewired f outs first w ≡ rewired g outs first w
-rewired_same f g [] first w e = e
-rewired_same f g (o ∷ outs) first w e = ap (λ n. cond (o == w) first n) (rewired_same f g outs (first + 1) w e)
+pub rewired_all : (wires : List Wire) (outs : List ℕ) (made : ℕ → Wire) (k : ℕ) → length outs ≤ k →
+    rewired wires (take k outs) made 0 ≡ rewired wires outs made 0
+rewired_all wires outs made k past = ap (λ os. rewired wires os made 0) (take_all k outs past)

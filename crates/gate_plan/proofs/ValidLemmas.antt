@@ -1,299 +1,211 @@
--- The gate of a statement is a valid one behind the gates of the statements before it.
-use Rattle.std.proofs.Common.{ℕ, ◌≡◌, ◌<◌, ◌≤◌, ◌+◌, ◌-◌, ◌^◌, Bool, true, false, ◌&&◌, cond, List, [], ◌∷◌, length, Option, Some, None, refl, sym, ◌∙◌, ap, subst, arith}
-use Rattle.std.specs.Prelude.{slice_get, IfSome, nat_le, ◌==◌}
-use Rattle.std.specs.List.{list_all}
-use Rattle.std.proofs.lemmas.Bool.{eqb-true, leb-true}
-use Rattle.std.proofs.Math.Pow.{pow-sub-lt}
-use Rattle.std.proofs.lemmas.Nat.{pow_pos}
-use Rattle.mot_base.specs.Limits.{most_width}
+-- The plan of a circuit whose statements are built is valid.
+use Rattle.std.proofs.Common.{ℕ, zero, suc, ◌≡◌, ◌<◌, ◌≤◌, ◌+◌, true, false, cond, List, [], ◌∷◌, length, map, take, Option, Some, None, inl, inr, refl, sym, ◌∙◌, ap, subst, arith}
+use Rattle.std.specs.Prelude.{slice_get, slice_index, IfSome, option_map}
+use Rattle.std.specs.Option.{unwrap_or}
+use Rattle.std.proofs.lemmas.Bool.{cases_lt}
+use Rattle.std.proofs.lemmas.Option.{slice_get-map}
+use Rattle.mot_base.specs.Limits.{most_gates}
+use Rattle.mot_base.proofs.Lists.{same_some, inside_of, some_at, index_at, taken_at}
 use Rattle.share_types.specs.declared.sharing.Sharing.{Sharing}
-use Rattle.share_types.specs.declared.sharing.Sharing.TheVariants as sharing
+use Rattle.share_types.specs.declared.sharing.Sharing.TheVariants.{A, B, Y}
 use Rattle.share_types.specs.declared.sharing.WireType.{WireType}
-use Rattle.share_types.specs.declared.sharing.WireType.TheVariants as wire
+use Rattle.share_types.specs.Wires.{sharing_of, wire_type, width_of, party_told}
 use Rattle.mixed_language.specs.declared.language.Operation.{Operation}
-use Rattle.mixed_language.specs.declared.language.Operation.TheVariants.{InputWord, InputBits, ConstWord, ConstBits, Add, Sub, Mul, AddConst, MulConst, Xor, And, Not, Slice, Join, A2Y, A2B, B2Y, Y2B, B2A, Y2A, Output}
+use Rattle.mixed_language.specs.declared.language.Operation.TheVariants.{Output}
 use Rattle.mixed_language.specs.declared.operand.Operand.{Operand}
-use Rattle.mixed_language.specs.declared.language.Widths.TheVariants.{Cut, Joined}
-use Rattle.mixed_language.specs.Language.{domain_of, widths_of, is_in, gives, arity_of, states, is_name_slot, is_width_slot}
-use Rattle.mixed_language.specs.Circuit.{Statement, wire_at}
-use Rattle.share_types.specs.Wires.{is_shared, wire_type, width_of, party_told}
-use Rattle.mixed_language.specs.Operands.{width_by}
-use Rattle.mixed_language.specs.Operands.{alike_width}
-use Rattle.mixed_language.specs.Wide.{IsWide}
-use Rattle.mot_base.proofs.Lists.{same_some}
-use Rattle.plan_gates.specs.Gate as plan
-use Rattle.plan_gates.specs.Gate.{Kind, Gate, Given, Word, Vector, width_at}
-use Rattle.plan_gates.specs.Plan.{IsOperand, IsGate}
-use Rattle.gate_plan.specs.Lowering.{Source, kind_made, is_keys, is_word}
+use Rattle.mixed_language.specs.Language.{gives, states, is_name_slot, arity_of}
+use Rattle.mixed_language.specs.Circuit.{Circuit, Statement, wire_at}
+use Rattle.mixed_language.specs.Valid.{IsStatement, IsCircuit}
+use Rattle.mixed_language.specs.Table.{told_value, receiver_of}
+use Rattle.mixed_language.proofs.WidthLemmas.{circuit_wide}
+use Rattle.plan_gates.specs.Plan.{Gates, IsGate, IsPlan}
+use Rattle.gate_plan.specs.declared.wire.Wire.{Wire}
+use Rattle.gate_plan.specs.Blocks.{Lowered, single}
+use Rattle.gate_plan.specs.Lowering.{block_of, operand_wire, lowered_to, lowered, wire_handled, width_handled, handled_by, is_keys, is_word, is_operation_built, all_built, all_gates}
+use Rattle.gate_plan.proofs.StandLemmas.{IsValue, later, AllGates, all_none, all_both}
+use Rattle.gate_plan.proofs.OperationLemmas.{Named, Names, Tells, named}
+use Rattle.gate_plan.proofs.FitLemmas.{given_of, shared_same, Sound, fit, output_fits, one_operand}
+use Rattle.gate_plan.proofs.BuiltLemmas.{built_at, handled_own, statement_of}
+use Rattle.gate_plan.proofs.PlanLemmas.{start, source, block, next, stands, wire_in, next_start, count}
 
--- what the gate of a value gives that is shared so
-abbrev pub given_of : WireType → Given
-given_of wire.A = Word
-given_of (wire.B width) = Vector
-given_of (wire.Y width) = Vector
+party_some : (parties : ℕ) (o : Option ℕ) → 0 < parties → IfSome o (λ party. party < parties) → unwrap_or o 0 < parties
+party_some parties None h f = h
+party_some parties (Some party) h f = f
 
--- the gate of a value
-pub record Agrees (gates : List Gate) (x : ℕ) (w : WireType) : Type 0 where
-  pub gate : Gate
-  pub there : slice_get gates x ≡ Some gate
-  pub width : gate.width ≡ width_of w
-  pub given : plan.gives gate.kind ≡ given_of w
+told_some : (parties : ℕ) (o : Option ℕ) → IfSome o (λ party. party < parties) →
+    IfSome (party_told (receiver_of o)) (λ party. party < parties)
+told_some parties None f = tt
+told_some parties (Some party) f = f
 
--- each value that is not shared as keys has its gate at its own place
-pub record Agree (before : List Statement) (gates : List Gate) : Type 0 where
-  pub at : (x : ℕ) (w : WireType) → wire_at before x ≡ Some w → is_keys (Some w) ≡ false → Agrees gates x w
+own_sharing : (given : Sharing) (width : ℕ) → sharing_of (wire_type given width) ≡ given
+own_sharing A width = refl
+own_sharing B width = refl
+own_sharing Y width = refl
 
--- what an operation takes and gives, from what its line states
-pub record Sound (parties : ℕ) (before : List Statement) (op : Operation) (given : Sharing) (v : Source) (stated start : ℕ) (os : List Operand) (width : ℕ) : Type 0 where
-  pub found : (i : ℕ) (x : Operand) → slice_get os i ≡ Some x → wire_at before x.at ≡ Some x.wire
-  pub shared : (i : ℕ) (x : Operand) → slice_get os i ≡ Some x → is_shared given x.wire ≡ true
-  pub arity : length os ≡ arity_of op
-  pub wide : width_by (widths_of op) stated start os ≡ Some width
-  pub x : (o : Operand) → slice_get os 0 ≡ Some o → v.x ≡ o.at
-  pub y : (o : Operand) → slice_get os 1 ≡ Some o → v.y ≡ o.at
-  pub party : v.party < parties
-  pub to : IfSome (party_told v.to) (λ party. party < parties)
-  pub place : v.place ≡ start
-  pub constant : v.constant < 2 ^ stated
-  pub bare : states is_width_slot op ≡ false → stated ≡ 64
+module _ (c : Circuit) (circuit : IsCircuit c) (built : all_built c ≡ true) where
+  abbrev all : List Statement
+  all = c.statements
 
-pub record OneOperand (os : List Operand) : Type 0 where
-  pub x : Operand
-  pub is : os ≡ x ∷ []
-  pub first : slice_get os 0 ≡ Some x
+  abbrev plan : Gates
+  plan = lowered c
 
-pub one_operand : (os : List Operand) → length os ≡ 1 → OneOperand os
-one_operand [] e = cc
-one_operand (x ∷ []) e = record { x = x; is = refl; first = refl }
-one_operand (x ∷ y ∷ os) e = absurd (omega (arith, e))
+  -- each value of the statements before a place is given by the gate of its wire
+  pub record AreValues (n : ℕ) : Type 0 where
+    pub at : (x : ℕ) (t : Statement) (w : WireType) → x < n → slice_get all x ≡ Some t → t.wire ≡ Some w →
+        IsValue plan.gates (start c n) (given_of (sharing_of w)) (block c x t).wire.gate (width_of w)
 
-pub record TwoOperands (os : List Operand) : Type 0 where
-  pub x : Operand
-  pub y : Operand
-  pub is : os ≡ x ∷ y ∷ []
-  pub first : slice_get os 0 ≡ Some x
-  pub second : slice_get os 1 ≡ Some y
+  module _ (n : ℕ) (s : Statement) (there : slice_get all n ≡ Some s) where
+    pub row : IsStatement c.parties (take n all) s
+    row = circuit.each n s there
 
-pub two_operands : (os : List Operand) → length os ≡ 2 → TwoOperands os
-two_operands [] e = cc
-two_operands (x ∷ []) e = absurd (omega (arith, e))
-two_operands (x ∷ y ∷ []) e = record { x = x; y = y; is = refl; first = refl; second = refl }
-two_operands (x ∷ y ∷ z ∷ os) e = absurd (omega (arith, e))
+    pub operand_place : (i : ℕ) (o : Operand) → slice_get row.operands i ≡ Some o → slice_get s.shape.operands i ≡ Some o.at
+    operand_place i o e =
+        ap (λ xs. slice_get xs i) row.places ∙ (slice_get-map (λ (x : Operand). x.at) row.operands i ∙ ap (option_map (λ (x : Operand). x.at)) e)
 
--- ---- widths
+    -- an operand is the value of an earlier statement, and has its wire
+    pub record IsEarlier (i : ℕ) (o : Operand) : Type 0 where
+      pub statement : Statement
+      pub below : o.at < n
+      pub there_at : slice_get all o.at ≡ Some statement
+      pub own : statement.wire ≡ Some o.wire
+      pub wired : operand_wire (lowered_to c n).wires (slice_get s.shape.operands i) ≡ (block c o.at statement).wire
 
-tested : (b : Bool) (n width : ℕ) → cond b (Some n) None ≡ Some width → (b ≡ true) × (n ≡ width)
-tested true n width e = (refl, same_some n width e)
-tested false n width e = cc
+    pub earlier : (i : ℕ) (o : Operand) → slice_get row.operands i ≡ Some o → IsEarlier i o
+    earlier i o e =
+        let found = statement_of (slice_get (take n all) o.at) o.wire (row.uses.found i o e) in
+        let place = taken_at all n o.at found.0 found.1 in
+        record {
+          statement = found.0;
+          below = place.0;
+          there_at = place.1;
+          own = found.2;
+          wired = ap (operand_wire (lowered_to c n).wires) (operand_place i o e)
+              ∙ ap (λ a. unwrap_or a (single 0)) (wire_in c o.at n found.0 place.1 place.0);
+        }
 
-both : (a b : Bool) → (a && b) ≡ true → (a ≡ true) × (b ≡ true)
-both true b e = (refl, e)
-both false b e = cc
+    operand_value : AreValues n → (i : ℕ) (o : Operand) → slice_get row.operands i ≡ Some o →
+        IsValue plan.gates (start c n) (given_of row.sharing) (operand_wire (lowered_to c n).wires (slice_get s.shape.operands i)).gate (width_of o.wire)
+    operand_value values i o e =
+        let t = earlier i o e in
+        let is = values.at o.at t.statement o.wire t.below t.there_at t.own in
+        subst (λ (a : Wire). IsValue plan.gates (start c n) (given_of row.sharing) a.gate (width_of o.wire)) (sym t.wired)
+        (subst (λ (given : Sharing). IsValue plan.gates (start c n) (given_of given) (block c o.at t.statement).wire.gate (width_of o.wire))
+        (shared_same row.sharing o.wire (row.uses.shared i o e)) is)
 
-one_width : (x : Operand) (width : ℕ) → alike_width (x ∷ []) ≡ Some width → width_of x.wire ≡ width
-one_width x width e = (tested (list_all (λ (z : Operand). width_of z.wire == width_of x.wire) (x ∷ [])) (width_of x.wire) width e).1
+    sound : AreValues n → Sound plan (start c n) s.shape.operation row.sharing (source c n s) s.shape.width row.operands row.width
+    sound values = record {
+      arity = row.arity;
+      wide = row.wide;
+      shared = row.uses.shared;
+      x = λ o e. operand_value values 0 o e;
+      y = λ o e. operand_value values 1 o e;
+      party = party_some c.parties s.shape.party (let some = circuit.some_parties in omega arith) row.numbers.party;
+      to = told_some c.parties s.shape.party row.numbers.party;
+      constant = row.numbers.fits;
+      bare = row.numbers.no_width;
+    }
 
-two_widths : (x y : Operand) (width : ℕ) → alike_width (x ∷ y ∷ []) ≡ Some width → (width_of x.wire ≡ width) × (width_of y.wire ≡ width)
-two_widths x y width e =
-    let parts = tested (list_all (λ (z : Operand). width_of z.wire == width_of x.wire) (x ∷ y ∷ [])) (width_of x.wire) width e in
-    let first = both (width_of x.wire == width_of x.wire) (list_all (λ (z : Operand). width_of z.wire == width_of x.wire) (y ∷ [])) parts.0 in
-    let second = both (width_of y.wire == width_of x.wire) true first.1 in
-    (parts.1, eqb-true _ _ second.0 ∙ parts.1)
+    -- how the value is shared that an output tells
+    pub record IsTold : Type 0 where
+      pub operand : Operand
+      pub first : slice_get row.operands 0 ≡ Some operand
+      pub place : told_value s ≡ operand.at
+      pub handled : wire_handled all s ≡ Some operand.wire
+      pub unnamed : s.wire ≡ None
 
--- ---- operands
+    pub told : s.shape.operation ≡ Output → IsTold
+    told e =
+        let t = one_operand row.operands (row.arity ∙ ap arity_of e) in
+        let is = earlier 0 t.x t.first in
+        let place = index_at s.shape.operands 0 t.x.at (operand_place 0 t.x t.first) in
+        record {
+          operand = t.x;
+          first = t.first;
+          place = place;
+          handled = ap (λ op. handled_by op (wire_at all (told_value s)) s.wire) e ∙ (ap (wire_at all) place ∙ rw is.there_at is.own);
+          unnamed = row.wire ∙ ap (λ b. cond b (Some (wire_type (gives s.shape.operation row.sharing) row.width)) None) (ap (states is_name_slot) e);
+        }
 
-module _ (parties : ℕ) (before : List Statement) (gates : List Gate) (agree : Agree before gates) where
-  -- an operand of a gate, with its width
-  abbrev IsUsed : Given → ℕ → ℕ → Type 0
-  IsUsed given x width = IsOperand gates given x × (width_at gates x ≡ width)
+    -- the gates of the statement may stand, and give its value, if it has one
+    record IsNext : Type 0 where
+      gates : AllGates plan (start c n) (block c n s).gates
+      value : (w : WireType) → s.wire ≡ Some w → IsValue plan.gates (start c (suc n)) (given_of (sharing_of w)) (block c n s).wire.gate (width_of w)
 
-  used : (x : ℕ) (w : WireType) (given : Given) → wire_at before x ≡ Some w → is_keys (Some w) ≡ false → given_of w ≡ given →
-      IsUsed given x (width_of w)
-  used x w given there plain is =
-      let a = agree.at x w there plain in
-      ((a.gate, a.there, a.given ∙ is), rw a.there a.width)
+    is_next : AreValues n → Named s.shape.operation → IsNext
+    is_next values (Names e untold) =
+        let op = s.shape.operation in
+        let w = wire_type (gives op row.sharing) row.width in
+        let own : s.wire ≡ Some w = row.wire ∙ rw e refl in
+        let handled = (handled_own c n s w circuit there own).0 in
+        let wide = circuit_wide c circuit n w (rw there own) in
+        let some = wide.0 in
+        let most = wide.1 in
+        let same : (source c n s).width ≡ width_of w = ap width_handled handled in
+        let f = fit plan (start c n) op (is_keys (wire_handled all s)) row.sharing (source c n s) s.shape.width row.operands row.width row.domain e
+        (built_at c n s built there) (ap is_keys handled) (sound values) (omega (arith, some, same)) (omega (arith, most, same)) same
+        (stands c n s there) in
+        let a = (block c n s).wire.gate in
+        let at_end = subst (λ k. IsValue plan.gates k (given_of (gives op row.sharing)) a (source c n s).width) (sym (next_start c n s there)) f.value in
+        let as_wide = subst (IsValue plan.gates (start c (suc n)) (given_of (gives op row.sharing)) a) same at_end in
+        let as_given = subst (λ (g : Sharing). IsValue plan.gates (start c (suc n)) (given_of g) a (width_of w)) (sym (own_sharing (gives op row.sharing) row.width)) as_wide in
+        record {
+          gates = f.gates;
+          value = λ u f. subst (λ (v : WireType). IsValue plan.gates (start c (suc n)) (given_of (sharing_of v)) a (width_of v)) (same_some w u (sym own ∙ f)) as_given;
+        }
+    is_next values (Tells e) =
+        let t = told e in
+        let w = t.operand.wire in
+        let before = earlier 0 t.operand t.first in
+        let wide = circuit_wide c circuit t.operand.at w (rw before.there_at before.own) in
+        let value = operand_value values 0 t.operand t.first in
+        let shared = shared_same row.sharing w (row.uses.shared 0 t.operand t.first) in
+        let keys = is_keys (wire_handled all s) in
+        let known = subst (λ (g : Sharing). IsValue plan.gates (start c n) (given_of g) (source c n s).x.gate (width_of w)) (sym shared) value in
+        record {
+          gates = subst (λ op. AllGates plan (start c n) (block_of op keys (source c n s) (start c n)).gates) (sym e)
+              (output_fits plan (start c n) keys (source c n s) w (subst (λ op. is_operation_built op keys ≡ true) e (built_at c n s built there)) (ap is_keys t.handled) known wide
+              (told_some c.parties s.shape.party row.numbers.party) (ap is_word t.handled) (ap width_handled t.handled));
+          value = λ u own. let contrary = sym own ∙ t.unnamed in cc;
+        }
 
-  word_used : (x : ℕ) (w : WireType) → wire_at before x ≡ Some w → is_shared sharing.A w ≡ true → IsUsed Word x 64
-  word_used x wire.A there e = used x wire.A Word there refl refl
-  word_used x (wire.B width) there e = cc
-  word_used x (wire.Y width) there e = cc
+  pub record IsValidTo (n : ℕ) : Type 0 where
+    pub values : AreValues n
+    pub gates : AllGates plan 0 (lowered_to c n).gates
 
-  vector_used : (x : ℕ) (w : WireType) → wire_at before x ≡ Some w → is_shared sharing.B w ≡ true → IsUsed Vector x (width_of w)
-  vector_used x wire.A there e = cc
-  vector_used x (wire.B width) there e = used x (wire.B width) Vector there refl refl
-  vector_used x (wire.Y width) there e = cc
+  values_next : (n : ℕ) (s : Statement) (there : slice_get all n ≡ Some s) → AreValues n → IsNext n s there → AreValues (suc n)
+  values_next n s there before step = record { at = at }
+    where
+      at : (x : ℕ) (t : Statement) (w : WireType) → x < suc n → slice_get all x ≡ Some t → t.wire ≡ Some w →
+          IsValue plan.gates (start c (suc n)) (given_of (sharing_of w)) (block c x t).wire.gate (width_of w)
+      at x t w below here own = elim (cases_lt x n) as (λ _. IsValue plan.gates (start c (suc n)) (given_of (sharing_of w)) (block c x t).wire.gate (width_of w)) [
+        | inl small ↦
+            (let more = next_start c n s there in
+            later (start c (suc n)) (omega (arith, more)) (before.at x t w small here own))
+        | inr large ↦
+            (let place : n ≡ x = omega (arith, below, large) in
+            let same : s ≡ t = same_some s t (sym there ∙ (ap (slice_get all) place ∙ here)) in
+            let is = step.value w (ap (λ (u : Statement). u.wire) same ∙ own) in
+            subst (λ k. IsValue plan.gates (start c (suc n)) (given_of (sharing_of w)) (block c k t).wire.gate (width_of w)) place
+            (subst (λ (u : Statement). IsValue plan.gates (start c (suc n)) (given_of (sharing_of w)) (block c n u).wire.gate (width_of w)) same is))
+      ]
 
-  module _ (op : Operation) (given : Sharing) (v : Source) (stated start : ℕ) (os : List Operand) (width : ℕ) (sound : Sound parties before op given v stated start os width) where
-    word_x : (o : Operand) → slice_get os 0 ≡ Some o → given ≡ sharing.A → IsUsed Word v.x 64
-    word_x o e a =
-        subst (λ n. IsUsed Word n 64) (sym (sound.x o e))
-        (word_used o.at o.wire (sound.found 0 o e) (subst (λ g. is_shared g o.wire ≡ true) a (sound.shared 0 o e)))
+  pub valid_to : (n : ℕ) → n ≤ length all → IsValidTo n
+  valid_to zero h = record { values = record { at = λ x t w below here own. absurd (omega (arith, below)) }; gates = all_none plan 0 }
+  valid_to (suc n) h =
+      let here = some_at all n (omega (arith, h)) in
+      let before = valid_to n (omega (arith, h)) in
+      let step = is_next n here.0 here.1 before.values (named here.0.shape.operation) in
+      record {
+        values = values_next n here.0 here.1 before.values step;
+        gates = subst (λ (l : Lowered). AllGates plan 0 l.gates) (sym (next c n here.0 here.1))
+            (all_both plan 0 (lowered_to c n).gates (start c n) (block c n here.0).gates (omega arith) before.gates step.gates);
+      }
 
-    word_y : (o : Operand) → slice_get os 1 ≡ Some o → given ≡ sharing.A → IsUsed Word v.y 64
-    word_y o e a =
-        subst (λ n. IsUsed Word n 64) (sym (sound.y o e))
-        (word_used o.at o.wire (sound.found 1 o e) (subst (λ g. is_shared g o.wire ≡ true) a (sound.shared 1 o e)))
-
-    vector_x : (o : Operand) → slice_get os 0 ≡ Some o → given ≡ sharing.B → IsUsed Vector v.x (width_of o.wire)
-    vector_x o e b =
-        subst (λ n. IsUsed Vector n (width_of o.wire)) (sym (sound.x o e))
-        (vector_used o.at o.wire (sound.found 0 o e) (subst (λ g. is_shared g o.wire ≡ true) b (sound.shared 0 o e)))
-
-    vector_y : (o : Operand) → slice_get os 1 ≡ Some o → given ≡ sharing.B → IsUsed Vector v.y (width_of o.wire)
-    vector_y o e b =
-        subst (λ n. IsUsed Vector n (width_of o.wire)) (sym (sound.y o e))
-        (vector_used o.at o.wire (sound.found 1 o e) (subst (λ g. is_shared g o.wire ≡ true) b (sound.shared 1 o e)))
-
-    words_used : length os ≡ 2 → given ≡ sharing.A → IsUsed Word v.x 64 × IsUsed Word v.y 64
-    words_used two a =
-        let t = two_operands os two in
-        (word_x t.x t.first a, word_y t.y t.second a)
-
-    one_word : length os ≡ 1 → given ≡ sharing.A → IsUsed Word v.x 64
-    one_word one a = let t = one_operand os one in word_x t.x t.first a
-
-    -- two vectors of the result's width, and one
-    vectors_used : length os ≡ 2 → given ≡ sharing.B → alike_width os ≡ Some width → IsUsed Vector v.x width × IsUsed Vector v.y width
-    vectors_used two b alike =
-        let t = two_operands os two in
-        let w = two_widths t.x t.y width (subst (λ zs. alike_width zs ≡ Some width) t.is alike) in
-        (subst (IsUsed Vector v.x) w.0 (vector_x t.x t.first b), subst (IsUsed Vector v.y) w.1 (vector_y t.y t.second b))
-
-    one_vector : length os ≡ 1 → given ≡ sharing.B → alike_width os ≡ Some width → IsUsed Vector v.x width
-    one_vector one b alike =
-        let t = one_operand os one in
-        let w = one_width t.x width (subst (λ zs. alike_width zs ≡ Some width) t.is alike) in
-        subst (IsUsed Vector v.x) w (vector_x t.x t.first b)
-
-    cut_used : length os ≡ 1 → given ≡ sharing.B → width_by Cut stated start os ≡ Some width →
-        (IsOperand gates Vector v.x) × (v.place + width ≤ width_at gates v.x)
-    cut_used one b cut =
-        let t = one_operand os one in
-        let u = vector_x t.x t.first b in
-        let parted = tested (nat_le (start + stated) (width_of t.x.wire)) stated width (subst (λ zs. width_by Cut stated start zs ≡ Some width) t.is cut) in
-        let within = leb-true _ _ parted.0 in
-        let same = parted.1 in
-        let place = sound.place in
-        let high = u.1 in
-        (u.0, omega arith)
-
-    join_used : length os ≡ 2 → given ≡ sharing.B → width_by Joined stated start os ≡ Some width →
-        (IsOperand gates Vector v.x) × (IsOperand gates Vector v.y) × (width ≡ width_at gates v.x + width_at gates v.y)
-    join_used two b joined =
-        let t = two_operands os two in
-        let u = vector_x t.x t.first b in
-        let z = vector_y t.y t.second b in
-        let parted = tested (nat_le (width_of t.x.wire + width_of t.y.wire) most_width) (width_of t.x.wire + width_of t.y.wire) width (subst (λ zs. width_by Joined stated start zs ≡ Some width) t.is joined) in
-        let same = parted.1 in
-        let low = u.1 in
-        let high = z.1 in
-        (u.0, z.0, omega arith)
-
-  -- ---- each operation
-
-  abbrev pub IsValid : Option Kind → WireType → Type 0
-  IsValid kind w = IfSome kind (λ kind. IsGate parties gates (record { kind = kind; width = width_of w }))
-
-  full : (width : ℕ) → 2 ^ width - 1 < 2 ^ width
-  full width = pow-sub-lt width (omega arith)
-
-  whole_constant : (c width : ℕ) → c < 2 ^ width → width ≡ 64 → c < 2 ^ 64
-  whole_constant c width h e = subst (λ n. c < 2 ^ n) e h
-
-  pub valid : (op : Operation) (given : Sharing) (v : Source) (stated start : ℕ) (os : List Operand) (width : ℕ) →
-      is_in (domain_of op) given ≡ true → Sound parties before op given v stated start os width →
-      states is_name_slot op ≡ true → IsWide (wire_type (gives op given) width) → is_keys (Some (wire_type (gives op given) width)) ≡ false →
-      v.width ≡ width_of (wire_type (gives op given) width) →
-      IsValid (kind_made op v) (wire_type (gives op given) width)
-  valid InputWord sharing.A v stated start os width domain sound named wide plain same =
-      record { some_width = omega arith; in_width = omega arith; word = λ e. refl; small = omega arith; uses = tt; fit = tt; party = sound.party }
-  valid InputBits sharing.B v stated start os width domain sound named wide plain same =
-      record { some_width = wide.0; in_width = wide.1; word = λ e. cc; small = pow_pos width; uses = tt; fit = tt; party = sound.party }
-  valid ConstWord sharing.A v stated start os width domain sound named wide plain same =
-      record { some_width = omega arith; in_width = omega arith; word = λ e. refl; small = whole_constant v.constant stated sound.constant (sound.bare refl); uses = tt; fit = tt; party = tt }
-  valid ConstBits sharing.B v stated start os width domain sound named wide plain same =
-      record { some_width = wide.0; in_width = wide.1; word = λ e. cc; small = subst (λ n. v.constant < 2 ^ n) (same_some stated width sound.wide) sound.constant; uses = tt; fit = tt; party = tt }
-  valid Add sharing.A v stated start os width domain sound named wide plain same =
-      let u = words_used Add sharing.A v stated start os width sound sound.arity refl in
-      record { some_width = omega arith; in_width = omega arith; word = λ e. refl; small = omega arith; uses = (u.0.0, (u.1.0, tt)); fit = (u.0.1, (u.1.1, tt)); party = tt }
-  valid Sub sharing.A v stated start os width domain sound named wide plain same =
-      let u = words_used Sub sharing.A v stated start os width sound sound.arity refl in
-      record { some_width = omega arith; in_width = omega arith; word = λ e. refl; small = omega arith; uses = (u.0.0, (u.1.0, tt)); fit = (u.0.1, (u.1.1, tt)); party = tt }
-  valid Mul sharing.A v stated start os width domain sound named wide plain same =
-      let u = words_used Mul sharing.A v stated start os width sound sound.arity refl in
-      record { some_width = omega arith; in_width = omega arith; word = λ e. refl; small = omega arith; uses = (u.0.0, (u.1.0, tt)); fit = (u.0.1, (u.1.1, tt)); party = tt }
-  valid AddConst sharing.A v stated start os width domain sound named wide plain same =
-      let u = one_word AddConst sharing.A v stated start os width sound sound.arity refl in
-      record { some_width = omega arith; in_width = omega arith; word = λ e. refl; small = whole_constant v.constant stated sound.constant (sound.bare refl); uses = (u.0, tt); fit = (u.1, tt); party = tt }
-  valid MulConst sharing.A v stated start os width domain sound named wide plain same =
-      let u = one_word MulConst sharing.A v stated start os width sound sound.arity refl in
-      record { some_width = omega arith; in_width = omega arith; word = λ e. refl; small = whole_constant v.constant stated sound.constant (sound.bare refl); uses = (u.0, tt); fit = (u.1, tt); party = tt }
-  valid Xor sharing.B v stated start os width domain sound named wide plain same =
-      let u = vectors_used Xor sharing.B v stated start os width sound sound.arity refl sound.wide in
-      record { some_width = wide.0; in_width = wide.1; word = λ e. cc; small = pow_pos width; uses = (u.0.0, (u.1.0, tt)); fit = (u.0.1, (u.1.1, tt)); party = tt }
-  valid And sharing.B v stated start os width domain sound named wide plain same =
-      let u = vectors_used And sharing.B v stated start os width sound sound.arity refl sound.wide in
-      record { some_width = wide.0; in_width = wide.1; word = λ e. cc; small = pow_pos width; uses = (u.0.0, (u.1.0, tt)); fit = (u.0.1, (u.1.1, tt)); party = tt }
-  valid Not sharing.B v stated start os width domain sound named wide plain same =
-      let u = one_vector Not sharing.B v stated start os width sound sound.arity refl sound.wide in
-      record { some_width = wide.0; in_width = wide.1; word = λ e. cc; small = subst (λ n. 2 ^ n - 1 < 2 ^ width) (sym same) (full width); uses = (u.0, tt); fit = (u.1, tt); party = tt }
-  valid Slice sharing.B v stated start os width domain sound named wide plain same =
-      let u = cut_used Slice sharing.B v stated start os width sound sound.arity refl sound.wide in
-      record { some_width = wide.0; in_width = wide.1; word = λ e. cc; small = pow_pos width; uses = (u.0, tt); fit = (u.1, tt); party = tt }
-  valid Join sharing.B v stated start os width domain sound named wide plain same =
-      let u = join_used Join sharing.B v stated start os width sound sound.arity refl sound.wide in
-      record { some_width = wide.0; in_width = wide.1; word = λ e. cc; small = pow_pos width; uses = (u.0, (u.1, tt)); fit = u.2; party = tt }
-  valid A2Y given v stated start os width domain sound named wide plain same = tt
-  valid A2B given v stated start os width domain sound named wide plain same = tt
-  valid B2Y given v stated start os width domain sound named wide plain same = tt
-  valid Y2B given v stated start os width domain sound named wide plain same = tt
-  valid B2A given v stated start os width domain sound named wide plain same = tt
-  valid Y2A given v stated start os width domain sound named wide plain same = tt
-  valid Output given v stated start os width domain sound named wide plain same = cc
-  valid InputWord sharing.B v stated start os width domain sound named wide plain same = cc
-  valid InputWord sharing.Y v stated start os width domain sound named wide plain same = cc
-  valid InputBits sharing.A v stated start os width domain sound named wide plain same = cc
-  valid InputBits sharing.Y v stated start os width domain sound named wide plain same = cc
-  valid ConstWord sharing.B v stated start os width domain sound named wide plain same = cc
-  valid ConstWord sharing.Y v stated start os width domain sound named wide plain same = cc
-  valid ConstBits sharing.A v stated start os width domain sound named wide plain same = cc
-  valid ConstBits sharing.Y v stated start os width domain sound named wide plain same = cc
-  valid Add sharing.B v stated start os width domain sound named wide plain same = cc
-  valid Add sharing.Y v stated start os width domain sound named wide plain same = cc
-  valid Sub sharing.B v stated start os width domain sound named wide plain same = cc
-  valid Sub sharing.Y v stated start os width domain sound named wide plain same = cc
-  valid Mul sharing.B v stated start os width domain sound named wide plain same = cc
-  valid Mul sharing.Y v stated start os width domain sound named wide plain same = cc
-  valid AddConst sharing.B v stated start os width domain sound named wide plain same = cc
-  valid AddConst sharing.Y v stated start os width domain sound named wide plain same = cc
-  valid MulConst sharing.B v stated start os width domain sound named wide plain same = cc
-  valid MulConst sharing.Y v stated start os width domain sound named wide plain same = cc
-  valid Xor sharing.A v stated start os width domain sound named wide plain same = cc
-  valid Xor sharing.Y v stated start os width domain sound named wide plain same = cc
-  valid And sharing.A v stated start os width domain sound named wide plain same = cc
-  valid And sharing.Y v stated start os width domain sound named wide plain same = cc
-  valid Not sharing.A v stated start os width domain sound named wide plain same = cc
-  valid Not sharing.Y v stated start os width domain sound named wide plain same = cc
-  valid Slice sharing.A v stated start os width domain sound named wide plain same = cc
-  valid Slice sharing.Y v stated start os width domain sound named wide plain same = cc
-  valid Join sharing.A v stated start os width domain sound named wide plain same = cc
-  valid Join sharing.Y v stated start os width domain sound named wide plain same = cc
-
-  told_gate : (v : Source) (x : ℕ) (w : WireType) → wire_at before x ≡ Some w → is_keys (Some w) ≡ false → IsWide w → v.x ≡ x →
-      IfSome (party_told v.to) (λ party. party < parties) → v.is_word ≡ is_word (Some w) → IsValid (kind_made Output v) w
-  told_gate v x wire.A there plain wide same to word =
-      let u = subst (λ n. IsUsed Word n 64) (sym same) (used x wire.A Word there refl refl) in
-      rw word (record { some_width = omega arith; in_width = omega arith; word = λ e. refl; small = omega arith; uses = (u.0, tt); fit = (u.1, tt); party = to })
-  told_gate v x (wire.B width) there plain wide same to word =
-      let u = subst (λ n. IsUsed Vector n width) (sym same) (used x (wire.B width) Vector there refl refl) in
-      rw word (record { some_width = wide.0; in_width = wide.1; word = λ e. cc; small = pow_pos width; uses = (u.0, tt); fit = (u.1, tt); party = to })
-  told_gate v x (wire.Y width) there plain wide same to word = cc
-
-  -- the gate of an output is valid
-  pub valid_output : (given : Sharing) (v : Source) (stated start : ℕ) (os : List Operand) (width : ℕ) (w : WireType) →
-      Sound parties before Output given v stated start os width → ((o : Operand) → slice_get os 0 ≡ Some o → w ≡ o.wire) →
-      IsWide w → is_keys (Some w) ≡ false → v.is_word ≡ is_word (Some w) → IsValid (kind_made Output v) w
-  valid_output given v stated start os width w sound told wide plain word =
-      let t = one_operand os sound.arity in
-      let same = told t.x t.first in
-      told_gate v t.x.at w (sound.found 0 t.x t.first ∙ ap Some (sym same)) plain wide (sound.x t.x t.first) sound.to word
+  pub lowered_is_plan : all_gates c ≤ most_gates → IsPlan (lowered c)
+  lowered_is_plan few = record {
+    some_parties = circuit.some_parties;
+    most_parties = circuit.most_parties;
+    few = (let all = count c (length c.statements) built (omega arith) in omega (arith, all, few));
+    each = λ g gate there.
+        subst (λ k. IsGate (lowered c) k gate) (omega arith) ((valid_to (length c.statements) (omega arith)).gates.each g gate there);
+  }

@@ -1,5 +1,5 @@
 -- The gates of a circuit in Bristol Fashion. Each of its wires has one bit.
-use Rattle.std.specs.Prelude.{ℕ, zero, suc, ◌≡◌, ◌+◌, ◌*◌, ◌%◌, ◌==◌, Bool, true, false, List, [], ◌∷◌, ◌++◌, length, map, sum, slice_get, slice_index, Option, Some, None, if◌then◌else◌}
+use Rattle.std.specs.Prelude.{ℕ, zero, suc, ◌≡◌, ◌+◌, ◌*◌, ◌%◌, Bool, true, false, List, [], ◌∷◌, ◌++◌, length, map, set, sum, slice_get, slice_index, Option, Some, None, if◌then◌else◌}
 use Rattle.share_types.specs.declared.sharing.Sharing.{Sharing}
 use Rattle.share_types.specs.declared.sharing.Sharing.TheVariants.{Y}
 use Rattle.share_types.specs.Sums.{each}
@@ -11,9 +11,11 @@ use Rattle.bristol_reader.specs.Circuit as bristol
 use Rattle.bristol_reader.specs.Circuit.{Circuit, output_wires}
 use Rattle.bristol_reader.specs.Table.{HaveInputWidths}
 use Rattle.bristol_reader.specs.Eval.{AreWireBits, output_bits}
-use Rattle.plan_gates.specs.Gate.{Kind, Gate, InB, ConstB, XorB, XorConstB, AndB, OutB}
-use Rattle.plan_gates.specs.Plan.{Gates}
-use Rattle.plan_gates.specs.Plain.{GateTold, told_by, plain_numbers}
+use Rattle.plan_gates.specs.Gate.{Kind, Gate, gate_of, InB, ConstB, XorB, XorConstB, AndB, OutB}
+use Rattle.plan_gates.specs.Plan.{Gates, with_gates}
+use Rattle.plan_gates.specs.Plain.{Outside, GateTold, told_by, plain_numbers}
+use Rattle.gate_plan.specs.declared.wire.Wire.{Wire}
+use Rattle.gate_plan.specs.Blocks.{Lowered, single, wire_among}
 
 -- ---- how many gates there are
 
@@ -57,7 +59,7 @@ all_bristol_gates keys c =
 -- ---- the gates of a circuit whose wires are shared by XOR
 
 abbrev pub bit_gate : Kind → Gate
-bit_gate kind = record { kind = kind; width = 1 }
+bit_gate kind = gate_of kind 1
 
 -- one gate for each wire of input values of these widths, of which the first has a number: value k belongs to party k
 -- mod N
@@ -66,54 +68,62 @@ input_gates parties k [] = []
 input_gates parties k (width ∷ widths) =
     each width (λ at. bit_gate (InB (k % parties) k at)) ++ input_gates parties (k + 1) widths
 
--- the gates of a gate of a kind that has so many outputs: x i is the gate of its input i, and word is its first input
--- as it stands
-abbrev pub kind_gates : BristolKind → (ℕ → ℕ) → ℕ → ℕ → List Gate
-kind_gates Xor x word outs = bit_gate (XorB (x 0) (x 1)) ∷ []
-kind_gates And x word outs = bit_gate (AndB (x 0) (x 1)) ∷ []
-kind_gates Inv x word outs = bit_gate (XorConstB (x 0) 1) ∷ []
+-- the gates of a gate of a kind that has so many outputs: x i is the wire of its input i, and word is its first input as
+-- it stands
+abbrev pub kind_gates : BristolKind → (ℕ → Wire) → ℕ → ℕ → List Gate
+kind_gates Xor x word outs = bit_gate (XorB (x 0).gate (x 1).gate) ∷ []
+kind_gates And x word outs = bit_gate (AndB (x 0).gate (x 1).gate) ∷ []
+kind_gates Inv x word outs = bit_gate (XorConstB (x 0).gate 1) ∷ []
 kind_gates Eq x word outs = bit_gate (ConstB word) ∷ []
 kind_gates Eqw x word outs = []
-kind_gates Mand x word outs = each outs (λ i. bit_gate (AndB (x i) (x (outs + i))))
+kind_gates Mand x word outs = each outs (λ i. bit_gate (AndB (x i).gate (x (outs + i)).gate))
 
--- the gate of the first output: that of its input for an EQW, and else the next one
-abbrev pub first_output : BristolKind → ℕ → ℕ → ℕ
-first_output Eqw x next = x
-first_output _ x next = next
+-- the wire of output i, where the first of these gates has a number: that of the input for an EQW, and else that of gate
+-- i
+abbrev pub output_wire : BristolKind → Wire → ℕ → ℕ → Wire
+output_wire Eqw x n i = x
+output_wire _ x n i = single (n + i)
 
--- some gates, and for each wire the number of the gate that gives its bit
-pub record Wiring : Type 0 where
-  pub gates : List Gate
-  pub gate_of : ℕ → ℕ
+-- the wires of all places, where those at some places are now made, by a number that rises from one
+abbrev pub rewired : List Wire → List ℕ → (ℕ → Wire) → ℕ → List Wire
+rewired wires [] made i = wires
+rewired wires (out ∷ outs) made i = rewired (set wires out (made i)) outs made (i + 1)
 
--- the gate of each wire, where some wires now have gates of rising numbers
-abbrev pub rewired : (ℕ → ℕ) → List ℕ → ℕ → ℕ → ℕ
-rewired gate_of [] first w = gate_of w
-rewired gate_of (out ∷ outs) first w = if out == w then first else rewired gate_of outs (first + 1) w
+-- the gates of the gate of a circuit, if there is one, and the wires behind it
+abbrev pub gates_made : Lowered → Option bristol.Gate → List Gate
+gates_made before None = []
+gates_made before (Some g) =
+    kind_gates g.kind (λ i. wire_among before.wires (slice_index g.ins i)) (slice_index g.ins 0) (length g.outs)
 
--- with the gates of one gate of a circuit more
-abbrev pub with_bristol : Wiring → Option bristol.Gate → Wiring
-with_bristol v None = v
-with_bristol v (Some g) =
-    let x : ℕ → ℕ = λ i. v.gate_of (slice_index g.ins i) in
+abbrev pub wires_made : Lowered → Option bristol.Gate → List Wire
+wires_made before None = before.wires
+wires_made before (Some g) =
+    rewired before.wires g.outs
+    (output_wire g.kind (wire_among before.wires (slice_index g.ins 0)) (length before.gates)) 0
+
+-- what the input wires of a circuit and its gates before a place are lowered to, with a wire for each wire of the
+-- circuit. The gate of an input wire has its number
+abbrev pub wired_before : ℕ → Circuit → ℕ → Lowered
+wired_before parties c zero = record { gates = input_gates parties 0 c.inputs; wires = each c.wires single }
+wired_before parties c (suc n) =
+    let before : Lowered = wired_before parties c n in
     record {
-      gates = v.gates ++ kind_gates g.kind x (slice_index g.ins 0) (length g.outs);
-      gate_of = rewired v.gate_of g.outs (first_output g.kind (x 0) (length v.gates));
+      gates = before.gates ++ gates_made before (slice_get c.gates n);
+      wires = wires_made before (slice_get c.gates n);
     }
 
--- the gates of the input wires, and of the circuit's gates before a place. The gate of an input wire has its number
-abbrev pub wired_before : ℕ → Circuit → ℕ → Wiring
-wired_before parties c zero = record { gates = input_gates parties 0 c.inputs; gate_of = λ w. w }
-wired_before parties c (suc n) = with_bristol (wired_before parties c n) (slice_get c.gates n)
+-- the plan of the input wires and of the gates before a place
+abbrev pub wired_draft : ℕ → Circuit → ℕ → Gates
+wired_draft parties c n = record { parties = parties; gates = (wired_before parties c n).gates }
 
-abbrev pub output_gates : (ℕ → ℕ) → List ℕ → List Gate
-output_gates gate_of wires = map (λ w. bit_gate (OutB (gate_of w) All)) wires
+abbrev pub output_gates : List Wire → List ℕ → List Gate
+output_gates wires outs = map (λ w. bit_gate (OutB (wire_among wires w).gate All)) outs
 
 -- the plan of a circuit among so many parties: its input wires, its gates and its output wires, each in order
 abbrev pub bristol_lowered : ℕ → Circuit → Gates
 bristol_lowered parties c =
-    let v = wired_before parties c (length c.gates) in
-    record { parties = parties; gates = v.gates ++ output_gates v.gate_of (output_wires c) }
+    with_gates (wired_draft parties c (length c.gates))
+    (output_gates (wired_before parties c (length c.gates)).wires (output_wires c))
 
 -- ---- that lowering keeps the plain evaluation
 
@@ -121,8 +131,10 @@ bristol_lowered parties c =
 abbrev pub told_bits : List Bool → List GateTold
 told_bits bits = map (λ bit. record { to = All; bits = bit ∷ [] }) bits
 
--- on all inputs, the output gates tell the bits of the output wires in order
+-- whatever comes from outside: where the inputs are the numbers of such bits, the output gates tell the bits of the
+-- output wires in order
 abbrev pub KeepsBristol : Circuit → Gates → Type 0
 KeepsBristol c plan =
-    (inputs : List (List Bool)) (bits : List Bool) → HaveInputWidths c inputs → AreWireBits c inputs bits →
-    told_by plan.gates (plain_numbers plan (map vector.number inputs)) ≡ told_bits (output_bits c bits)
+    (outside : Outside) (inputs : List (List Bool)) (bits : List Bool) → outside.inputs ≡ map vector.number inputs →
+    HaveInputWidths c inputs → AreWireBits c inputs bits →
+    told_by plan.gates (plain_numbers plan outside) ≡ told_bits (output_bits c bits)

@@ -4,20 +4,22 @@ use Rattle.circuit_tables.specs.Table.{Told}
 use Rattle.mixed_language.specs.Circuit.{Circuit}
 use Rattle.mixed_language.specs.Eval.{IsEvaluated, told_of}
 use Rattle.plan_gates.specs.Plan.{Gates}
-use Rattle.plan_gates.specs.Plain.{GateTold, told_by, plain_numbers}
-use Rattle.gate_plan.specs.Lowering.{gates_before}
+use Rattle.plan_gates.specs.Plain.{Outside, GateTold, told_by, plain_numbers}
+use Rattle.gate_plan.specs.declared.wire.Wire.{Wire}
+use Rattle.gate_plan.specs.Lowering.{wires_of}
 
 -- an output of a circuit without its name
 abbrev pub unnamed : Told → GateTold
 unnamed told = record { to = told.to; bits = told.bits }
 
--- on all inputs, the number of each statement's value is that of its gate, and the output gates tell what the circuit
--- tells, in the order of its outputs
-pub record KeepsValues (c : Circuit) (plan : Gates) (inputs values : List ℕ) : Type 0 where
+-- whatever comes from outside: the number of each statement's value is that of its wire's gate, and the output gates tell
+-- what the circuit tells, in the order of its outputs
+pub record KeepsValues (c : Circuit) (plan : Gates) (outside : Outside) (values : List ℕ) : Type 0 where
   pub values_kept : (at : ℕ) (value : ℕ) → slice_get values at ≡ Some value →
-      slice_get (plain_numbers plan inputs) (gates_before c.parties c.statements at) ≡ Some value
-  pub told_kept : told_by plan.gates (plain_numbers plan inputs) ≡ map unnamed (told_of c values)
+      (wire : Wire) × (slice_get (wires_of c) at ≡ Some wire) × (slice_get (plain_numbers plan outside) wire.gate ≡ Some value)
+  pub told_kept : told_by plan.gates (plain_numbers plan outside) ≡ map unnamed (told_of c values)
 
 abbrev pub KeepsEvaluation : Circuit → Gates → Type 0
 KeepsEvaluation c plan =
-    (inputs values : List ℕ) → IsEvaluated c.statements inputs values → KeepsValues c plan inputs values
+    (outside : Outside) (values : List ℕ) → IsEvaluated c.statements outside.inputs values →
+    KeepsValues c plan outside values

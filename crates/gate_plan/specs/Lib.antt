@@ -1,4 +1,4 @@
+pub mod Blocks
 pub mod Bristol
 pub mod Keeps
 pub mod Lowering
-pub mod Wired

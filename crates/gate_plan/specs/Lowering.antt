@@ -1,5 +1,5 @@
 -- The gates of a circuit's statements.
-use Rattle.std.specs.Prelude.{ℕ, zero, suc, ◌+◌, ◌-◌, ◌*◌, ◌^◌, Bool, true, false, not, ◌&&◌, List, [], ◌∷◌, ◌++◌, length, take, slice_get, Option, Some, None, option_map, if◌then◌else◌}
+use Rattle.std.specs.Prelude.{ℕ, zero, suc, ◌+◌, ◌-◌, ◌*◌, ◌^◌, Bool, true, false, not, ◌&&◌, List, [], length, take, slice_get, Option, Some, None, option_map, if◌then◌else◌}
 use Rattle.std.specs.List.{list_all}
 use Rattle.std.specs.Option.{unwrap_or}
 use Rattle.share_types.specs.declared.sharing.WireType.{WireType}
@@ -10,8 +10,10 @@ use Rattle.mixed_language.specs.Circuit.{Circuit, Statement, Shape, wire_at}
 use Rattle.share_types.specs.Wires.{width_of}
 use Rattle.mixed_language.specs.Table.{inputs_of, told_value, receiver_of}
 use Rattle.share_types.specs.declared.receiver.Receiver.{Receiver}
-use Rattle.plan_gates.specs.Gate.{Kind, Gate, InA, ConstA, AddA, SubA, AddConstA, MulConstA, MulA, OutA, InB, ConstB, XorB, XorConstB, SliceB, JoinB, AndB, OutB}
+use Rattle.plan_gates.specs.Gate.{InA, ConstA, AddA, SubA, AddConstA, MulConstA, MulA, OutA, InB, ConstB, XorB, XorConstB, SliceB, JoinB, AndB, OutB}
 use Rattle.plan_gates.specs.Plan.{Gates}
+use Rattle.gate_plan.specs.declared.wire.Wire.{Wire}
+use Rattle.gate_plan.specs.Blocks.{Block, Lowered, single, wire_among, one, no_block, with_block}
 
 -- ---- how many gates the statements of a circuit have
 
@@ -71,21 +73,25 @@ is_conversion B2A = true
 is_conversion Y2A = true
 is_conversion _ = false
 
+-- whether an operation is built, where its value or what it tells is shared as keys or not
+abbrev pub is_operation_built : Operation → Bool → Bool
+is_operation_built operation keys = not (is_conversion operation) && not keys
+
 -- neither takes nor gives a value that is shared as keys, and converts none
 abbrev pub is_built : List Statement → Statement → Bool
-is_built all s = not (is_conversion s.shape.operation) && not (is_keys (wire_handled all s))
+is_built all s = is_operation_built s.shape.operation (is_keys (wire_handled all s))
 
 abbrev pub all_built : Circuit → Bool
 all_built c = list_all (is_built c.statements) c.statements
 
 -- ---- the gates of a statement
 
--- what the gate of a statement is made of: the gates of its operands, the number of its input, the party whose input it
+-- what the gates of a statement are made of: the wires of its operands, the number of its input, the party whose input it
 -- is, who is told, whether a word is told, the width of its value or of what it tells, and the place and the constant
 -- that its line states
 pub record Source : Type 0 where
-  pub x : ℕ
-  pub y : ℕ
+  pub x : Wire
+  pub y : Wire
   pub k : ℕ
   pub party : ℕ
   pub to : Receiver
@@ -94,24 +100,25 @@ pub record Source : Type 0 where
   pub place : ℕ
   pub constant : ℕ
 
--- the gate of an operation that is built
-abbrev pub kind_made : Operation → Source → Option Kind
-kind_made InputWord v = Some (InA v.party v.k)
-kind_made InputBits v = Some (InB v.party v.k 0)
-kind_made ConstWord v = Some (ConstA v.constant)
-kind_made ConstBits v = Some (ConstB v.constant)
-kind_made Add v = Some (AddA v.x v.y)
-kind_made Sub v = Some (SubA v.x v.y)
-kind_made Mul v = Some (MulA v.x v.y)
-kind_made AddConst v = Some (AddConstA v.x v.constant)
-kind_made MulConst v = Some (MulConstA v.x v.constant)
-kind_made Xor v = Some (XorB v.x v.y)
-kind_made And v = Some (AndB v.x v.y)
-kind_made Not v = Some (XorConstB v.x (2 ^ v.width - 1))
-kind_made Slice v = Some (SliceB v.x v.place)
-kind_made Join v = Some (JoinB v.x v.y)
-kind_made Output v = Some (if v.is_word then OutA v.x v.to else OutB v.x v.to)
-kind_made _ v = None
+-- the gates of an operation, of which the first has the number n, where its value or what it tells is shared as keys or
+-- not, and the wire of that value. What is not built has none
+abbrev pub block_of : Operation → Bool → Source → ℕ → Block
+block_of InputWord keys v n = one n v.width (InA v.party v.k)
+block_of InputBits false v n = one n v.width (InB v.party v.k 0)
+block_of ConstWord keys v n = one n v.width (ConstA v.constant)
+block_of ConstBits false v n = one n v.width (ConstB v.constant)
+block_of Add keys v n = one n v.width (AddA v.x.gate v.y.gate)
+block_of Sub keys v n = one n v.width (SubA v.x.gate v.y.gate)
+block_of Mul keys v n = one n v.width (MulA v.x.gate v.y.gate)
+block_of AddConst keys v n = one n v.width (AddConstA v.x.gate v.constant)
+block_of MulConst keys v n = one n v.width (MulConstA v.x.gate v.constant)
+block_of Xor false v n = one n v.width (XorB v.x.gate v.y.gate)
+block_of And false v n = one n v.width (AndB v.x.gate v.y.gate)
+block_of Not false v n = one n v.width (XorConstB v.x.gate (2 ^ v.width - 1))
+block_of Slice false v n = one n v.width (SliceB v.x.gate v.place)
+block_of Join false v n = one n v.width (JoinB v.x.gate v.y.gate)
+block_of Output false v n = one n v.width (if v.is_word then OutA v.x.gate v.to else OutB v.x.gate v.to)
+block_of _ keys v n = no_block
 
 -- the width of a value that is shared so, if there is one
 abbrev pub width_handled : Option WireType → ℕ
@@ -121,15 +128,17 @@ abbrev pub is_word : Option WireType → Bool
 is_word (Some wire.A) = true
 is_word _ = false
 
--- the gate of the value at the place of an operand, by a numbering of the places
-abbrev pub operand_gate : (ℕ → ℕ) → Option ℕ → ℕ
-operand_gate gate None = 0
-operand_gate gate (Some at) = gate at
+-- the wire of the value at the place of an operand, if there is one
+abbrev pub operand_wire : List Wire → Option ℕ → Wire
+operand_wire wires None = single 0
+operand_wire wires (Some at) = wire_among wires at
 
-abbrev pub source_by : (ℕ → ℕ) → Shape → ℕ → Option WireType → Source
-source_by gate shape k handled = record {
-  x = operand_gate gate (slice_get shape.operands 0);
-  y = operand_gate gate (slice_get shape.operands 1);
+-- what the gates of a shape are made of, from the wires of its operands, the number of its input, and how its value is
+-- shared, or the value that it tells
+abbrev pub source_from : Shape → Wire → Wire → ℕ → Option WireType → Source
+source_from shape x y k handled = record {
+  x = x;
+  y = y;
   k = k;
   party = unwrap_or shape.party 0;
   to = receiver_of shape.party;
@@ -139,29 +148,35 @@ source_by gate shape k handled = record {
   constant = shape.constant;
 }
 
--- the gate of a statement with its width: the value of an earlier statement is that of its first gate
-abbrev pub source_of : ℕ → List Statement → ℕ → Statement → Source
-source_of parties all at s =
-    source_by (gates_before parties all) s.shape (length (inputs_of (take at all))) (wire_handled all s)
+-- what those of the statement at a place are made of, from the wires of the statements before it
+abbrev pub source_of : Circuit → ℕ → List Wire → Statement → Source
+source_of c at wires s =
+    source_from s.shape
+    (operand_wire wires (slice_get s.shape.operands 0))
+    (operand_wire wires (slice_get s.shape.operands 1))
+    (length (inputs_of (take at c.statements)))
+    (wire_handled c.statements s)
 
-abbrev pub gate_list : Option Kind → ℕ → List Gate
-gate_list None width = []
-gate_list (Some kind) width = record { kind = kind; width = width } ∷ []
+-- the gates of the statement at a place, behind those of the statements before it
+abbrev pub block_at : Circuit → ℕ → Lowered → Option Statement → Block
+block_at c at before None = no_block
+block_at c at before (Some s) =
+    block_of s.shape.operation (is_keys (wire_handled c.statements s)) (source_of c at before.wires s)
+    (length before.gates)
 
-abbrev pub expansion : ℕ → List Statement → ℕ → Option Statement → List Gate
-expansion parties all at None = []
-expansion parties all at (Some s) =
-    gate_list (kind_made s.shape.operation (source_of parties all at s)) (width_handled (wire_handled all s))
-
--- the gates of the statements before a place, one after another
-abbrev pub lowered_before : ℕ → List Statement → ℕ → List Gate
-lowered_before parties all zero = []
-lowered_before parties all (suc n) = lowered_before parties all n ++ expansion parties all n (slice_get all n)
+-- the gates of the statements before a place, one statement after another, with a wire for each statement: that of its
+-- value, and for an output that of what it tells
+abbrev pub lowered_to : Circuit → ℕ → Lowered
+lowered_to c zero = record { gates = []; wires = [] }
+lowered_to c (suc n) = with_block (lowered_to c n) (block_at c n (lowered_to c n) (slice_get c.statements n))
 
 -- the plan of the statements before a place
-abbrev pub lowered_to : Circuit → ℕ → Gates
-lowered_to c n = record { parties = c.parties; gates = lowered_before c.parties c.statements n }
+abbrev pub draft_to : Circuit → ℕ → Gates
+draft_to c n = record { parties = c.parties; gates = (lowered_to c n).gates }
 
--- the plan of a circuit whose statements are built
+-- the plan of a circuit whose statements are built, and the wires of its statements
 abbrev pub lowered : Circuit → Gates
-lowered c = lowered_to c (length c.statements)
+lowered c = draft_to c (length c.statements)
+
+abbrev pub wires_of : Circuit → List Wire
+wires_of c = (lowered_to c (length c.statements)).wires

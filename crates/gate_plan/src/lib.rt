@@ -6,6 +6,7 @@ mod error;
 mod expand;
 mod lower;
 mod statement;
+mod wire;
 
 pub use bristol::{lower_bristol, lowered_bristol_gates};
 pub use error::PlanError;

@@ -1,16 +1,17 @@
-ghost use Rattle.std.specs.Prelude.{◌≡◌, ℕ, ◌<◌, ◌≤◌, ◌+◌, ◌^◌, ◌↔◌, true, false, length, take, slice_get, option_map, Some, None, IfOk, IfSome, IsErrOf};
+ghost use Rattle.std.specs.Prelude.{◌≡◌, ℕ, ◌<◌, ◌≤◌, ◌+◌, ◌^◌, ◌↔◌, true, false, [], ◌∷◌, ◌++◌, length, take, slice_get, IfOk, IfSome, OnOk, IsErrOf};
 ghost use Rattle.mot_base.specs.Limits.{least_parties, most_parties, most_width, most_gates};
 ghost use Rattle.mixed_language.specs.Circuit.{shape_of};
 ghost use Rattle.mixed_language.specs.Valid.{IsCircuit};
 ghost use Rattle.mixed_language.specs.Table.{inputs_of};
-ghost use Rattle.gate_plan.specs.Lowering.{wire_handled, is_keys, gates_of, gates_in, all_gates, is_built, all_built, lowered_to, lowered};
+ghost use Rattle.gate_plan.specs.Lowering.{wire_handled, is_keys, gates_of, gates_in, all_gates, is_built, all_built, lowered_to, draft_to, lowered};
 ghost use Rattle.gate_plan.specs.Keeps.{KeepsEvaluation};
 
 use crate::error::PlanError;
-use crate::statement::{gate_of, inputs_taken, wire_handled};
+use crate::statement::{inputs_taken, operand_wire, operands_of, push_block, wire_handled};
+use crate::wire::Wire;
 use mixed_language::{Form, Mixed};
 use mot_base::{MAX_GATES, NoMemory};
-use plan_gates::Plan;
+use plan_gates::{Draft, Plan};
 use share_types::WireType;
 use std::alloc::Global;
 
@@ -21,6 +22,7 @@ const ADDER_GATES: u64 = 1073;
 /// or converts one, and `TooManyGates` exactly where the circuit has too many.
 pub fn lower_mixed(alloc: Global, circuit: &Mixed) -> Result<Plan, PlanError>
     ensures plan { IfOk result (λ plan. plan ≡ lowered circuit.now) }
+    ensures count { IfOk result (λ plan. length plan.gates ≡ all_gates circuit.now) }
     ensures keeps { IfOk result (λ plan. KeepsEvaluation circuit.now plan) }
     ensures not_built { IsErrOf result PlanError.NotBuilt ↔ (all_built circuit.now ≡ false) }
     ensures too_many { (gates : ℕ) → IsErrOf result (PlanError.TooManyGates gates) ↔
@@ -118,35 +120,49 @@ fn is_built(circuit: &Mixed, at: u32) -> bool
     }
 }
 
-/// The gates of a circuit whose statements are built.
+/// The gates of a circuit whose statements are built, and which are not too many.
 fn lower_built(alloc: Global, circuit: &Mixed) -> Result<Plan, NoMemory>
-    requires { all_built circuit.now ≡ true }
+    requires built { all_built circuit.now ≡ true }
+    requires few { all_gates circuit.now ≤ most_gates }
     ensures plan { IfOk result (λ plan. plan ≡ lowered circuit.now) }
+    ensures count { IfOk result (λ plan. length plan.gates ≡ all_gates circuit.now) }
     ensures keeps { IfOk result (λ plan. KeepsEvaluation circuit.now plan) }
 {
-    let mut plan = Plan::new(alloc, circuit.parties());
+    let mut draft = Draft::new(alloc, circuit.parties());
+    let mut wires = Vec::with_capacity(alloc, circuit.len() as usize)?;
     let mut inputs = 0;
     for at in 0..circuit.len() {
-        plan = with_statement(plan, circuit, at, inputs)?;
+        let wire = push_statement(&mut draft, circuit, at, inputs, &wires)?;
+        wires.push(wire)?;
         inputs += inputs_taken(circuit.form(at));
     }
-    Ok(plan)
+    Plan::of(alloc, draft)
 }
 
-/// The plan with the gate of one statement more.
-fn with_statement(plan: Plan, circuit: &Mixed, at: u32, inputs: u32) -> Result<Plan, NoMemory>
+/// Adds the gates of one statement, and gives the wire of its value, or of what it tells.
+fn push_statement(
+    draft: &mut Draft,
+    circuit: &Mixed,
+    at: u32,
+    inputs: u32,
+    wires: &[Wire],
+) -> Result<Wire, NoMemory>
     requires at { at < length circuit.now.statements }
     requires circuit { IsCircuit circuit.now }
     requires built { all_built circuit.now ≡ true }
-    requires before { plan ≡ lowered_to circuit.now at }
+    requires few { all_gates circuit.now ≤ most_gates }
+    requires before { draft.old ≡ draft_to circuit.now at }
+    requires wires { wires.now ≡ (lowered_to circuit.now at).wires }
     requires inputs { inputs ≡ length (inputs_of (take at circuit.now.statements)) }
-    ensures { IfOk result (λ plan. plan ≡ lowered_to circuit.now (at + 1)) }
+    ensures next { OnOk result (draft.new ≡ draft_to circuit.now (at + 1)) }
+    ensures given { IfOk result (λ wire. wires.now ++ wire ∷ [] ≡ (lowered_to circuit.now (at + 1)).wires) }
 {
-    let Some(wire) = wire_handled(circuit, at) else {
-        return Ok(plan);
-    };
-    match gate_of(circuit.form(at), inputs, wire) {
-        Some(kind) => plan.with_gate(kind, wire.width()),
-        None => Ok(plan),
+    let form = circuit.form(at);
+    let (x, y) = operands_of(form);
+    let x = operand_wire(wires, x);
+    let y = operand_wire(wires, y);
+    match wire_handled(circuit, at) {
+        Some(wire) => push_block(draft, form, inputs, wire, x, y),
+        None => unreachable!(),
     }
 }

@@ -1,7 +1,7 @@
-//! The gate of a statement.
+//! The gates of a statement.
 
-ghost use Rattle.std.specs.Prelude.{◌≡◌, ◌<◌, ◌≤◌, ◌-◌, ◌^◌, length, slice_get, slice_index, option_map, Some, None, IfSome, if◌then◌else◌};
-ghost use Rattle.mot_base.specs.Limits.{most_width};
+ghost use Rattle.std.specs.Prelude.{◌≡◌, ◌<◌, ◌≤◌, ◌+◌, ◌-◌, ◌^◌, false, length, slice_get, slice_index, Some, IfOk, IfSome, OnOk, if◌then◌else◌};
+ghost use Rattle.mot_base.specs.Limits.{most_width, most_gates};
 ghost use Rattle.mixed_language.specs.declared.language.Operation.TheVariants.{ConstBits};
 ghost use Rattle.mixed_language.specs.Circuit.{shape_of};
 ghost use Rattle.share_types.specs.Wires.{width_of};
@@ -9,12 +9,15 @@ ghost use Rattle.mixed_language.specs.Valid.{AreEarlier};
 ghost use Rattle.mixed_language.specs.Eval.{inputs_taken};
 ghost use Rattle.mixed_language.specs.Wide.{IsWide};
 ghost use Rattle.plan_gates.specs.Gate.{OutA, OutB, kind_of, stated_width};
-ghost use Rattle.gate_plan.specs.Lowering.{handled_by, wire_handled, is_word, kind_made, source_by};
+ghost use Rattle.plan_gates.specs.Plan.{with_gates};
+ghost use Rattle.gate_plan.specs.Blocks.{Lowered};
+ghost use Rattle.gate_plan.specs.Lowering.{handled_by, wire_handled, is_word, is_conversion, block_of, operand_wire, source_from};
 
+use crate::wire::{Wire, push_one, wire_among};
 use circuit_tables::Receiver;
 use mixed_language::{Form, Mixed};
-use mot_base::MAX_WIDTH;
-use plan_gates::GateKind;
+use mot_base::{MAX_WIDTH, NoMemory};
+use plan_gates::{Draft, GateKind};
 use share_types::{Bits, WireType};
 
 /// How the value of a statement is shared, or the value that it tells.
@@ -49,43 +52,117 @@ pub fn inputs_taken(form: Form) -> u32
     }
 }
 
-/// What the gate of a statement does, if its operation is built: `k` is the number of its input, and `wire` is how its
-/// value is shared, or the value that it tells.
-pub fn gate_of(form: Form, k: u32, wire: WireType) -> Option<GateKind>
+/// The places of the first and the second operand of a statement, where it has them.
+pub fn operands_of(form: Form) -> (Option<u32>, Option<u32>)
+    ensures first { result.0 ≡ slice_get (shape_of form).operands 0 }
+    ensures second { result.1 ≡ slice_get (shape_of form).operands 1 }
+{
+    match form {
+        Form::InputA { .. }
+        | Form::InputB { .. }
+        | Form::InputY { .. }
+        | Form::ConstA { .. }
+        | Form::ConstB { .. }
+        | Form::ConstY { .. } => (None, None),
+        Form::AddA { x, y }
+        | Form::SubA { x, y }
+        | Form::MulA { x, y }
+        | Form::XorB { x, y }
+        | Form::XorY { x, y }
+        | Form::AndB { x, y }
+        | Form::AndY { x, y }
+        | Form::JoinB { x, y }
+        | Form::JoinY { x, y } => (Some(x), Some(y)),
+        Form::AddConstA { x, .. }
+        | Form::MulConstA { x, .. }
+        | Form::NotB { x }
+        | Form::NotY { x }
+        | Form::SliceB { x, .. }
+        | Form::SliceY { x, .. }
+        | Form::A2Y { x }
+        | Form::A2B { x }
+        | Form::B2Y { x }
+        | Form::Y2B { x }
+        | Form::B2A { x }
+        | Form::Y2A { x }
+        | Form::Output { x, .. } => (Some(x), None),
+    }
+}
+
+/// The wire of the value at the place of an operand, and that of gate 0 where there is none.
+pub fn operand_wire(wires: &[Wire], place: Option<u32>) -> Wire
+    ensures { result ≡ operand_wire wires.now place }
+{
+    match place {
+        Some(at) => wire_among(wires, at),
+        None => Wire::single(0),
+    }
+}
+
+/// Adds the gates of a statement that is built, and gives the wire of its value: `k` is the number of its input, `wire`
+/// is how its value is shared, or the value that it tells, and `x` and `y` are the wires of its operands.
+pub fn push_block(
+    draft: &mut Draft,
+    form: Form,
+    k: u32,
+    wire: WireType,
+    x: Wire,
+    y: Wire,
+) -> Result<Wire, NoMemory>
     requires wide { IsWide wire }
+    requires built { is_conversion (shape_of form).operation ≡ false }
     requires constant { (shape_of form).operation ≡ ConstBits → (shape_of form).width ≡ width_of wire }
-    ensures kind { option_map kind_of result
-        ≡ kind_made (shape_of form).operation (source_by (λ at. at) (shape_of form) k (Some wire)) }
-    ensures stated { IfSome result (λ kind. IfSome (stated_width kind) (λ width. width ≡ width_of wire)) }
+    requires room { length draft.old.gates
+        + length (block_of (shape_of form).operation false (source_from (shape_of form) x y k (Some wire))
+        (length draft.old.gates)).gates ≤ most_gates }
+    ensures next { OnOk result (draft.new ≡ with_gates draft.old
+        (block_of (shape_of form).operation false (source_from (shape_of form) x y k (Some wire))
+        (length draft.old.gates)).gates) }
+    ensures given { IfOk result (λ given. given
+        ≡ (block_of (shape_of form).operation false (source_from (shape_of form) x y k (Some wire))
+        (length draft.old.gates)).wire) }
 {
     let width = wire.width();
+    let (x, y) = (x.gate, y.gate);
     match form {
-        Form::InputA { party } => Some(GateKind::InA { party, k }),
-        Form::InputB { party, .. } | Form::InputY { party, .. } => Some(GateKind::InB {
-            party,
-            k,
-            at: 0,
-            width,
-        }),
-        Form::ConstA { c } => Some(GateKind::ConstA { c }),
-        Form::ConstB { c } | Form::ConstY { c } => Some(GateKind::ConstB { c }),
-        Form::AddA { x, y } => Some(GateKind::AddA { x, y }),
-        Form::SubA { x, y } => Some(GateKind::SubA { x, y }),
-        Form::MulA { x, y } => Some(GateKind::MulA { x, y }),
-        Form::AddConstA { x, c } => Some(GateKind::AddConstA { x, c }),
-        Form::MulConstA { x, c } => Some(GateKind::MulConstA { x, c }),
-        Form::XorB { x, y } | Form::XorY { x, y } => Some(GateKind::XorB { x, y }),
-        Form::AndB { x, y } | Form::AndY { x, y } => Some(GateKind::AndB { x, y }),
-        Form::NotB { x } | Form::NotY { x } => Some(GateKind::XorConstB {
-            x,
-            c: Bits::ones(width),
-        }),
-        Form::SliceB { x, at, .. } | Form::SliceY { x, at, .. } => {
-            Some(GateKind::SliceB { x, at, width })
+        Form::InputA { party } => push_one(draft, GateKind::InA { party, k }, width),
+        Form::InputB { party, .. } | Form::InputY { party, .. } => {
+            let at = 0;
+            push_one(
+                draft,
+                GateKind::InB {
+                    party,
+                    k,
+                    at,
+                    width,
+                },
+                width,
+            )
         }
-        Form::JoinB { x, y } | Form::JoinY { x, y } => Some(GateKind::JoinB { x, y }),
-        Form::Output { x, to } => Some(output(x, to, wire)),
-        _ => None,
+        Form::ConstA { c } => push_one(draft, GateKind::ConstA { c }, width),
+        Form::ConstB { c } | Form::ConstY { c } => push_one(draft, GateKind::ConstB { c }, width),
+        Form::AddA { .. } => push_one(draft, GateKind::AddA { x, y }, width),
+        Form::SubA { .. } => push_one(draft, GateKind::SubA { x, y }, width),
+        Form::MulA { .. } => push_one(draft, GateKind::MulA { x, y }, width),
+        Form::AddConstA { c, .. } => push_one(draft, GateKind::AddConstA { x, c }, width),
+        Form::MulConstA { c, .. } => push_one(draft, GateKind::MulConstA { x, c }, width),
+        Form::XorB { .. } | Form::XorY { .. } => push_one(draft, GateKind::XorB { x, y }, width),
+        Form::AndB { .. } | Form::AndY { .. } => push_one(draft, GateKind::AndB { x, y }, width),
+        Form::NotB { .. } | Form::NotY { .. } => {
+            let c = Bits::ones(width);
+            push_one(draft, GateKind::XorConstB { x, c }, width)
+        }
+        Form::SliceB { at, .. } | Form::SliceY { at, .. } => {
+            push_one(draft, GateKind::SliceB { x, at, width }, width)
+        }
+        Form::JoinB { .. } | Form::JoinY { .. } => push_one(draft, GateKind::JoinB { x, y }, width),
+        Form::Output { to, .. } => push_one(draft, output(x, to, wire), width),
+        Form::A2Y { .. }
+        | Form::A2B { .. }
+        | Form::B2Y { .. }
+        | Form::Y2B { .. }
+        | Form::B2A { .. }
+        | Form::Y2A { .. } => unreachable!(),
     }
 }
 

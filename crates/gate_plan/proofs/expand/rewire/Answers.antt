@@ -1,20 +1,30 @@
-use Rattle.std.proofs.Common.{ℕ, ◌+◌, get_or, set, length, refl, sym, subst, arith}
-use Rattle.bristol_reader.proofs.BoolLemmas.{below_at}
-use Rattle.gate_plan.proofs.BristolWireLemmas.{IsRewired, rewired_next}
+use Rattle.std.proofs.Common.{ℕ, ◌≡◌, ◌+◌, List, length, take, get_or, set, sym, ◌∙◌, ap, ap₂, arith}
+use Rattle.std.proofs.lemmas.List.{length-set}
+use Rattle.gate_plan.specs.declared.wire.Wire.{Wire}
+use Rattle.gate_plan.specs.Bristol.{output_wire}
+use Rattle.gate_plan.proofs.BristolWireLemmas.{rewired_next, rewired_all}
 use Rattle.gate_plan.proofs.expand.rewire.Goals as goal
 
-pub loop-wire-preserved : goal.loop-wire-preserved
-loop-wire-preserved c =
-    let old = c.args.gate_of.now in
-    let wires = c.args.wires.now in
-    let k = c.loop-wire.wire-index in
-    let now = c.loop-wire.gate_of in
-    let before = c.loop-wire.invariant in
-    let same = before.0 in
-    let h = c.loop-wire-test.true in
-    let P : ℕ → Type 0 = λ number. IsRewired old wires c.args.first (k + 1) (set now (get_or wires k 0) number) in (
+pub output_wire-requires : goal.output_wire-requires
+output_wire-requires c =
+    let same = c.loop-out.invariant.0 in
+    let within = c.loop-out-test.true in
+    let few = c.requires.few in
+    omega arith
+
+pub loop-out-preserved : goal.loop-out-preserved
+loop-out-preserved c =
+    let k = c.loop-out.out-index in
+    let out = get_or c.args.outs.now k 0 in
+    let made : ℕ → Wire = output_wire c.args.kind c.args.x c.args.first in
+    let same = c.loop-out.invariant.0 in (
       omega arith,
-      subst P (sym before.0)
-          (rewired_next old wires now c.args.first k (get_or wires k 0) c.requires.apart h refl
-          (below_at (length old) wires k c.requires.range h) before.1),
+      length-set c.loop-out.wires out c.output_wire.result ∙ c.loop-out.invariant.1,
+      ap₂ (λ (ws : List Wire) (a : Wire). set ws out a) c.loop-out.invariant.2 (c.output_wire.ensures ∙ ap made same)
+          ∙ sym (rewired_next c.args.wires.now c.args.outs.now made k c.loop-out-test.true),
     )
+
+pub returns : goal.returns
+returns c =
+    c.loop-out.invariant.2
+    ∙ rewired_all c.args.wires.now c.args.outs.now (output_wire c.args.kind c.args.x c.args.first) c.loop-out.out-index c.loop-out-test.false

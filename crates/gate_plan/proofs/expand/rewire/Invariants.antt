@@ -1,7 +1,9 @@
-use Rattle.std.proofs.Common.{◌≡◌, ◌+◌}
-use Rattle.gate_plan.proofs.BristolWireLemmas.{IsRewired}
+use Rattle.std.proofs.Common.{◌≡◌, length, take}
+use Rattle.gate_plan.specs.Bristol.{output_wire, rewired}
 use Rattle.gate_plan.proofs.expand.rewire.Given as goal
 
-abbrev pub invariant-loop-wire : goal.invariant-loop-wire
-invariant-loop-wire l =
-    (l.number ≡ l.first + l.wire-index) × IsRewired l.initial.gate_of l.wires l.first l.wire-index l.gate_of
+abbrev pub invariant-loop-out : goal.invariant-loop-out
+invariant-loop-out l =
+    (l.place ≡ l.out-index)
+    × (length l.wires ≡ length l.initial.wires)
+    × (l.wires ≡ rewired l.initial.wires (take l.out-index l.outs) (output_wire l.kind l.x l.first) 0)

@@ -1,14 +1,16 @@
 use Rattle.std.proofs.Common.{ℕ, ◌<◌, ◌%◌, length, ap, arith}
 use Rattle.gate_plan.proofs.BristolCodeLemmas.{value_room, value_next}
-use Rattle.gate_plan.proofs.expand.input_plan.Goals as goal
+use Rattle.gate_plan.proofs.expand.input_draft.Goals as goal
 
-pub with_value-requires-clause-room : goal.with_value-requires-clause-room
-with_value-requires-clause-room c =
+pub push_value-requires : goal.push_value-requires
+push_value-requires c =
     let widths = c.args.circuit.now.inputs in
     let count = c.input_count-k-end.ensures in
     let test = c.loop-k-test.true in
     let h : c.loop-k.k < length widths = omega arith in
-    value_room c.args.parties widths c.loop-k.plan c.loop-k.k c.input_width.result h c.requires.few c.loop-k.invariant c.input_width.ensures
+    record {
+      room = value_room c.args.parties widths c.loop-k.draft c.loop-k.k c.input_width.result h c.requires.few c.loop-k.invariant c.input_width.ensures;
+    }
 
 pub loop-k-preserved : goal.loop-k-preserved
 loop-k-preserved c =
@@ -16,5 +18,5 @@ loop-k-preserved c =
     let count = c.input_count-k-end.ensures in
     let test = c.loop-k-test.true in
     let h : c.loop-k.k < length widths = omega arith in
-    value_next c.args.parties widths c.loop-k.plan c.in_ok-plan.plan c.loop-k.k _ c.input_width.result h c.loop-k.invariant
-    (ap (λ (n : ℕ). c.loop-k.k % n) c.from.ensures) c.input_width.ensures c.in_ok-plan.ensures
+    value_next c.args.parties widths c.loop-k.draft c.push_value.new.draft c.loop-k.k _ c.input_width.result h c.loop-k.invariant
+    (ap (λ (n : ℕ). c.loop-k.k % n) c.from.ensures) c.input_width.ensures c.in_ok-push_value.ensures
