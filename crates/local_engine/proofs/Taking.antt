@@ -25,10 +25,12 @@ use Rattle.bristol_reader.specs.Table as bristol_table
 use Rattle.bristol_reader.specs.declared.kind.BristolKind.{BristolKind}
 use Rattle.bristol_reader.specs.declared.kind.BristolKind.TheVariants as kind
 use Rattle.plan_gates.specs.Gate as plan
-use Rattle.plan_gates.specs.Gate.{Kind, Gate, InA, InB}
-use Rattle.gate_plan.specs.Lowering.{Source, kind_made, source_of, wire_handled, width_handled, all_built, lowered_before}
-use Rattle.gate_plan.specs.Bristol.{bit_gate, input_gates, kind_gates, Wiring, with_bristol, wired_before, output_gates}
-use Rattle.gate_plan.proofs.GatesLemmas.{row_at, gate_kind, gate_at, some_at, next_gate, handled_own}
+use Rattle.plan_gates.specs.Gate.{Gate, InA, InB, gate_of}
+use Rattle.gate_plan.specs.declared.wire.Wire.{Wire}
+use Rattle.gate_plan.specs.Blocks.{Lowered, wire_among}
+use Rattle.gate_plan.specs.Lowering.{Source, block_of, block_at, source_of, is_keys, wire_handled, width_handled, all_built, lowered_to}
+use Rattle.gate_plan.specs.Bristol.{bit_gate, input_gates, kind_gates, gates_made, wired_before, output_gates}
+use Rattle.gate_plan.proofs.BuiltLemmas.{handled_own}
 use Rattle.gate_tasks.specs.Honest.{Taken, taken_by}
 use Rattle.gate_tasks.specs.Stage.{taken_from}
 use Rattle.local_run.specs.Inputs.{TakesFrom}
@@ -57,56 +59,46 @@ take_one inputs gate own (suc g) other t there e = cc
 
 -- ---- mixed circuits
 
--- the gate of an input takes the whole input
-record IsTaking (op : Operation) (v : Source) (kind : Kind) (t : Taken) : Type 0 where
+-- a gate that takes the whole input of a statement
+record IsTaking (op : Operation) (v : Source) (gate : Gate) (t : Taken) : Type 0 where
   owner : states is_owner_slot op ≡ true
   party : t.party ≡ v.party
   k : t.k ≡ v.k
-  from : taken_from kind ≡ 0
+  from : taken_from gate.kind ≡ 0
+  width : gate.width ≡ v.width
 
-taking : (op : Operation) (v : Source) (kind : Kind) (t : Taken) → kind_made op v ≡ Some kind →
-    taken_by kind ≡ Some t → IsTaking op v kind t
-taking InputWord v kind t m e =
-    let is : InA v.party v.k ≡ kind = same_some _ kind m in
-    let taken = same_some _ t (ap taken_by is ∙ e) in
-    record {
-      owner = refl;
-      party = sym (ap (λ (u : Taken). u.party) taken);
-      k = sym (ap (λ (u : Taken). u.k) taken);
-      from = sym (ap taken_from is);
-    }
-taking InputBits v kind t m e =
-    let is : InB v.party v.k 0 ≡ kind = same_some _ kind m in
-    let taken = same_some _ t (ap taken_by is ∙ e) in
-    record {
-      owner = refl;
-      party = sym (ap (λ (u : Taken). u.party) taken);
-      k = sym (ap (λ (u : Taken). u.k) taken);
-      from = sym (ap taken_from is);
-    }
-taking Output v kind t m e = let contrary = sym (either v.is_word) ∙ (ap taken_by (same_some _ kind m) ∙ e) in cc
+take_silent : (inputs : List Input) (gate : Gate) → taken_by gate.kind ≡ None → TakeOf inputs (gate ∷ [])
+take_silent inputs gate none = take_one inputs gate (λ t e. let contrary = sym none ∙ e in cc)
+
+taking : (inputs : List Input) (op : Operation) (keys : Bool) (v : Source) (n : ℕ) →
+    ((gate : Gate) (t : Taken) → IsTaking op v gate t → TakesFrom inputs gate t) → TakeOf inputs (block_of op keys v n).gates
+taking inputs InputWord keys v n own =
+    take_one inputs (gate_of (InA v.party v.k) v.width) (λ t e. own (gate_of (InA v.party v.k) v.width) t
+    (let taken = same_some _ t e in
+    record { owner = refl; party = sym (ap (λ (u : Taken). u.party) taken); k = sym (ap (λ (u : Taken). u.k) taken); from = refl; width = refl }))
+taking inputs InputBits false v n own =
+    take_one inputs (gate_of (InB v.party v.k 0) v.width) (λ t e. own (gate_of (InB v.party v.k 0) v.width) t
+    (let taken = same_some _ t e in
+    record { owner = refl; party = sym (ap (λ (u : Taken). u.party) taken); k = sym (ap (λ (u : Taken). u.k) taken); from = refl; width = refl }))
+taking inputs Output false v n own =
+    take_silent inputs (gate_of (cond v.is_word (plan.OutA v.x.gate v.to) (plan.OutB v.x.gate v.to)) v.width) (either v.is_word)
   where
-    either : (b : Bool) → taken_by (cond b (plan.OutA v.x v.to) (plan.OutB v.x v.to)) ≡ None
+    either : (b : Bool) → taken_by (cond b (plan.OutA v.x.gate v.to) (plan.OutB v.x.gate v.to)) ≡ None
     either true = refl
     either false = refl
-taking ConstWord v kind t m e = let contrary = ap taken_by (same_some _ kind m) ∙ e in cc
-taking ConstBits v kind t m e = let contrary = ap taken_by (same_some _ kind m) ∙ e in cc
-taking Add v kind t m e = let contrary = ap taken_by (same_some _ kind m) ∙ e in cc
-taking Sub v kind t m e = let contrary = ap taken_by (same_some _ kind m) ∙ e in cc
-taking Mul v kind t m e = let contrary = ap taken_by (same_some _ kind m) ∙ e in cc
-taking AddConst v kind t m e = let contrary = ap taken_by (same_some _ kind m) ∙ e in cc
-taking MulConst v kind t m e = let contrary = ap taken_by (same_some _ kind m) ∙ e in cc
-taking Xor v kind t m e = let contrary = ap taken_by (same_some _ kind m) ∙ e in cc
-taking And v kind t m e = let contrary = ap taken_by (same_some _ kind m) ∙ e in cc
-taking Not v kind t m e = let contrary = ap taken_by (same_some _ kind m) ∙ e in cc
-taking Slice v kind t m e = let contrary = ap taken_by (same_some _ kind m) ∙ e in cc
-taking Join v kind t m e = let contrary = ap taken_by (same_some _ kind m) ∙ e in cc
-taking A2Y v kind t m e = cc
-taking A2B v kind t m e = cc
-taking B2Y v kind t m e = cc
-taking Y2B v kind t m e = cc
-taking B2A v kind t m e = cc
-taking Y2A v kind t m e = cc
+taking inputs ConstWord keys v n own = take_silent inputs _ refl
+taking inputs ConstBits false v n own = take_silent inputs _ refl
+taking inputs Add keys v n own = take_silent inputs _ refl
+taking inputs Sub keys v n own = take_silent inputs _ refl
+taking inputs Mul keys v n own = take_silent inputs _ refl
+taking inputs AddConst keys v n own = take_silent inputs _ refl
+taking inputs MulConst keys v n own = take_silent inputs _ refl
+taking inputs Xor false v n own = take_silent inputs _ refl
+taking inputs And false v n own = take_silent inputs _ refl
+taking inputs Not false v n own = take_silent inputs _ refl
+taking inputs Slice false v n own = take_silent inputs _ refl
+taking inputs Join false v n own = take_silent inputs _ refl
+taking inputs _ keys v n own = λ g gate t there e. cc
 
 -- an input has a name, and its value is as wide as its line states
 record IsInput (op : Operation) (given : Sharing) (width stated : ℕ) : Type 0 where
@@ -163,17 +155,14 @@ entry_there (u ∷ ss) (suc n) s x there e =
     ap (slice_get (own ++ inputs_of ss)) (length-append own (inputs_of (take n ss)))
     ∙ at_right own (inputs_of ss) (length (inputs_of (take n ss))) x (entry_there ss n s x there e)
 
-module _ (c : Circuit) (circuit : IsCircuit c) (built : all_built c ≡ true) where
+module _ (c : Circuit) (circuit : IsCircuit c) where
   abbrev all : List Statement
   all = c.statements
 
-  take_here : (n : ℕ) (s : Statement) (there : slice_get all n ≡ Some s) (t : Taken) →
-      taken_by (gate_at c circuit built n s there).kind ≡ Some t →
-      TakesFrom (inputs_of all) (gate_at c circuit built n s there) t
-  take_here n s there t e =
-      let row = row_at c circuit built n s there in
-      let kind = gate_kind c circuit built n s there in
-      let is = taking s.shape.operation (source_of c.parties all n s) kind.0 t kind.1 e in
+  take_here : (n : ℕ) (s : Statement) (wires : List Wire) → slice_get all n ≡ Some s → (gate : Gate) (t : Taken) →
+      IsTaking s.shape.operation (source_of c n wires s) gate t → TakesFrom (inputs_of all) gate t
+  take_here n s wires there gate t is =
+      let row = circuit.each n s there in
       let owner = some_there s.shape.party (row.numbers.owner is.owner) in
       let entry : Input = record { name = s.name; party = record { 0 = owner.0 }; width = s.shape.width } in
       let owned : owner_of s.shape ≡ Some owner.0 = ap (λ (b : Bool). cond b s.shape.party None) is.owner ∙ owner.1 in
@@ -183,27 +172,32 @@ module _ (c : Circuit) (circuit : IsCircuit c) (built : all_built c ≡ true) wh
       let w : WireType = wire_type (gives s.shape.operation row.sharing) row.width in
       let own : s.wire ≡ Some w = row.wire ∙ ap (λ (b : Bool). cond b (Some w) None) input.named in
       let wide : width_handled (wire_handled all s) ≡ s.shape.width =
-      ap width_handled (handled_own c circuit built n s w there own).0 ∙ input.wide in
+      ap width_handled (handled_own c n s w circuit there own).0 ∙ input.wide in
       let from = is.from in
+      let same = is.width in
       record {
         input = entry;
         there = ap (slice_get (inputs_of all)) is.k
             ∙ entry_there all n s entry there (ap (λ (o : Option ℕ). slice_get (input_entry s o) 0) owned);
         party = sym (is.party ∙ ap (λ (o : Option ℕ). unwrap_or o 0) owner.1);
-        within = omega (arith, from, wide);
+        within = omega (arith, from, wide, same);
       }
 
-  take_before : (n : ℕ) → n ≤ length all → TakeOf (inputs_of all) (lowered_before c.parties all n)
-  take_before zero h = λ g gate t there e. cc
-  take_before (suc n) h =
-      let here = some_at c circuit built all n (omega (arith, h)) in
-      let gate = gate_at c circuit built n here.0 here.1 in
-      subst (TakeOf (inputs_of all)) (sym (next_gate c circuit built n here.0 here.1))
-      (take_both (inputs_of all) (lowered_before c.parties all n) (gate ∷ []) (take_before n (omega (arith, h)))
-      (take_one (inputs_of all) gate (take_here n here.0 here.1)))
+  take_before : (n : ℕ) → TakeOf (inputs_of all) (lowered_to c n).gates
+  take_before zero = λ g gate t there e. cc
+  take_before (suc n) =
+      take_both (inputs_of all) (lowered_to c n).gates (block_at c n (lowered_to c n) (slice_get all n)).gates (take_before n)
+      (by (slice_get all n) refl)
+    where
+      by : (o : Option Statement) → slice_get all n ≡ o → TakeOf (inputs_of all) (block_at c n (lowered_to c n) o).gates
+      by None there = λ g gate t there e. cc
+      by (Some s) there =
+          let wires = (lowered_to c n).wires in
+          taking (inputs_of all) s.shape.operation (is_keys (wire_handled all s)) (source_of c n wires s) (length (lowered_to c n).gates)
+          (take_here n s wires there)
 
 pub mixed_plans_take_inputs : MixedPlansTakeInputs
-mixed_plans_take_inputs c circuit built = take_before c circuit built (length c.statements) (omega arith)
+mixed_plans_take_inputs c circuit built = take_before c circuit (length c.statements)
 
 -- ---- circuits in Bristol Fashion
 
@@ -237,26 +231,20 @@ take_inputs inputs parties k (w ∷ ws) at =
         subst (λ (u : Taken). TakesFrom inputs (bit_gate (InB (k % parties) k i)) u) (same_some _ t e)
         (record { input = entry; there = found; party = refl; within = omega (arith, h) })
 
-take_silent : (inputs : List Input) (gate : Gate) → taken_by gate.kind ≡ None → TakeOf inputs (gate ∷ [])
-take_silent inputs gate none = take_one inputs gate (λ t e. let contrary = sym none ∙ e in cc)
-
-take_kind : (inputs : List Input) (k : BristolKind) (x : ℕ → ℕ) (word outs : ℕ) →
+take_kind : (inputs : List Input) (k : BristolKind) (x : ℕ → Wire) (word outs : ℕ) →
     TakeOf inputs (kind_gates k x word outs)
-take_kind inputs kind.Xor x word outs = take_silent inputs (bit_gate (plan.XorB (x 0) (x 1))) refl
-take_kind inputs kind.And x word outs = take_silent inputs (bit_gate (plan.AndB (x 0) (x 1))) refl
-take_kind inputs kind.Inv x word outs = take_silent inputs (bit_gate (plan.XorConstB (x 0) 1)) refl
-take_kind inputs kind.Eq x word outs = take_silent inputs (bit_gate (plan.ConstB word)) refl
+take_kind inputs kind.Xor x word outs = take_silent inputs _ refl
+take_kind inputs kind.And x word outs = take_silent inputs _ refl
+take_kind inputs kind.Inv x word outs = take_silent inputs _ refl
+take_kind inputs kind.Eq x word outs = take_silent inputs _ refl
 take_kind inputs kind.Eqw x word outs = λ g gate t there e. cc
 take_kind inputs kind.Mand x word outs =
-    take_each inputs outs (λ i. bit_gate (plan.AndB (x i) (x (outs + i)))) (λ i h t e. cc)
+    take_each inputs outs (λ i. bit_gate (plan.AndB (x i).gate (x (outs + i)).gate)) (λ i h t e. cc)
 
-take_next : (inputs : List Input) (v : Wiring) (o : Option bristol.Gate) → TakeOf inputs v.gates →
-    TakeOf inputs (with_bristol v o).gates
-take_next inputs v None before = before
-take_next inputs v (Some g) before =
-    let x : ℕ → ℕ = λ i. v.gate_of (slice_index g.ins i) in
-    take_both inputs v.gates (kind_gates g.kind x (slice_index g.ins 0) (length g.outs)) before
-    (take_kind inputs g.kind x (slice_index g.ins 0) (length g.outs))
+take_made : (inputs : List Input) (before : Lowered) (o : Option bristol.Gate) → TakeOf inputs (gates_made before o)
+take_made inputs before None = λ g gate t there e. cc
+take_made inputs before (Some g) =
+    take_kind inputs g.kind (λ i. wire_among before.wires (slice_index g.ins i)) (slice_index g.ins 0) (length g.outs)
 
 take_wired : (parties : ℕ) (c : bristol.Circuit) (n : ℕ) →
     TakeOf (bristol_table.inputs_of parties c) (wired_before parties c n).gates
@@ -265,19 +253,19 @@ take_wired parties c zero =
     let place : i ≡ 0 + i = omega arith in
     subst (λ (n : ℕ). slice_get (bristol_table.inputs_of parties c) n ≡ Some x) place there)
 take_wired parties c (suc n) =
-    take_next (bristol_table.inputs_of parties c) (wired_before parties c n) (slice_get c.gates n)
-    (take_wired parties c n)
+    let before = wired_before parties c n in
+    take_both (bristol_table.inputs_of parties c) before.gates (gates_made before (slice_get c.gates n))
+    (take_wired parties c n) (take_made (bristol_table.inputs_of parties c) before (slice_get c.gates n))
 
-take_outputs : (inputs : List Input) (gate_of : ℕ → ℕ) (wires : List ℕ) →
-    TakeOf inputs (output_gates gate_of wires)
-take_outputs inputs gate_of [] = λ g gate t there e. cc
-take_outputs inputs gate_of (w ∷ ws) =
-    take_both inputs (bit_gate (plan.OutB (gate_of w) All) ∷ []) (output_gates gate_of ws)
-    (take_silent inputs (bit_gate (plan.OutB (gate_of w) All)) refl) (take_outputs inputs gate_of ws)
+take_outputs : (inputs : List Input) (wires : List Wire) (outs : List ℕ) → TakeOf inputs (output_gates wires outs)
+take_outputs inputs wires [] = λ g gate t there e. cc
+take_outputs inputs wires (w ∷ ws) =
+    take_both inputs (bit_gate (plan.OutB (wire_among wires w).gate All) ∷ []) (output_gates wires ws)
+    (take_silent inputs _ refl) (take_outputs inputs wires ws)
 
 pub bristol_plans_take_inputs : BristolPlansTakeInputs
 bristol_plans_take_inputs parties c =
     let v = wired_before parties c (length c.gates) in
-    take_both (bristol_table.inputs_of parties c) v.gates (output_gates v.gate_of (output_wires c))
+    take_both (bristol_table.inputs_of parties c) v.gates (output_gates v.wires (output_wires c))
     (take_wired parties c (length c.gates))
-    (take_outputs (bristol_table.inputs_of parties c) v.gate_of (output_wires c))
+    (take_outputs (bristol_table.inputs_of parties c) v.wires (output_wires c))

@@ -70,10 +70,10 @@ mixed_cut c values = record {
 }
 
 pub mixed_outputs_are_told : MixedOutputsAreTold
-mixed_outputs_are_told c plan inputs values p told keeps are =
+mixed_outputs_are_told c plan outside values p told keeps are =
     let outputs = told_of c values in
     let same : joined_bits told ≡ flat_map (λ (t : Told). t.bits) (outputs_to p outputs) =
-    joined_entries plan inputs p told are
+    joined_entries plan outside p told are
     ∙ (ap (λ (es : List GateTold). bits_of_entries es p) keeps.told_kept ∙ unnamed_bits p outputs) in
     let cut = cuts_by_party (mixed_table.outputs_of c) (flat_map (λ (t : Told). t.bits) outputs) outputs p (mixed_cut c values) in
     subst (λ (bs : List Bool). AreCut (asked (Some (record { 0 = p })) (mixed_table.outputs_of c)) bs (outputs_to p outputs)) (sym same) cut
@@ -95,11 +95,11 @@ to_all p at (w ∷ widths) (t ∷ ts) same =
     ∙ ap (λ (more : List Told). t ∷ more) (to_all p (at + 1) widths ts head.rest)
 
 pub bristol_outputs_are_told : BristolOutputsAreTold
-bristol_outputs_are_told c plan inputs wires outputs p told keeps widths are_wires cut are =
+bristol_outputs_are_told c plan outside inputs wires outputs p told keeps numbers widths are_wires cut are =
     let every : outputs_to p outputs ≡ outputs = to_all p 0 c.outputs outputs cut.receivers in
     let same : joined_bits told ≡ flat_map (λ (t : Told). t.bits) (outputs_to p outputs) =
-    joined_entries plan (map number inputs) p told are
-    ∙ (ap (λ (es : List GateTold). bits_of_entries es p) (keeps inputs wires widths are_wires)
+    joined_entries plan outside p told are
+    ∙ (ap (λ (es : List GateTold). bits_of_entries es p) (keeps outside inputs wires numbers widths are_wires)
     ∙ (told_all p (output_bits c wires) ∙ (sym cut.joined ∙ ap (flat_map (λ (t : Told). t.bits)) (sym every)))) in
     let by_party = cuts_by_party (bristol_table.outputs_of c) (output_bits c wires) outputs p cut in
     subst (λ (bs : List Bool). AreCut (asked (Some (record { 0 = p })) (bristol_table.outputs_of c)) bs (outputs_to p outputs)) (sym same) by_party
