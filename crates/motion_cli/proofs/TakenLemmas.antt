@@ -24,6 +24,7 @@ use Rattle.dealer_files.specs.Honest.{HonestTogether}
 use Rattle.dealer_maker.specs.Draws.{parts_drawn}
 use Rattle.dealer_maker.proofs.Honest.{honest}
 use Rattle.plan_gates.specs.Plan.{Gates, IsPlan}
+use Rattle.plan_gates.specs.Plain.{Outside, only}
 use Rattle.plan_gates.specs.Needs.{all_needs}
 use Rattle.gate_tasks.specs.Party.{Own}
 use Rattle.gate_tasks.specs.declared.own.Own.{Own as OwnInMemory}
@@ -204,9 +205,9 @@ pub run_reported : (c : Circuit) (seed : List ℕ) (v : List (List Bool)) (parts
     IsWhole c → Keeps c (plan_of c) → IsPlan (plan_of c) → TakesInputs (inputs_of c) (plan_of c) →
     HaveWidths None (inputs_of c) v → ServeAll (plan_of c) parts →
     ((table : Payloads) → IsJoint (plan_of c) owns table → AreReports (plan_of c) owns table reports) →
-    ((bases : Needs) (session : ℕ) (inputs : List ℕ) → AreHonest (plan_of c) owns bases session →
-    AreInputs (plan_of c) owns inputs → (p : ℕ) (report : PartyReport) → slice_get reports p ≡ Some report →
-    map (λ (bits : Bits). bits.word) report.told ≡ plain_told (plan_of c) inputs p) →
+    ((bases : Needs) (session : ℕ) (outside : Outside) → AreHonest (plan_of c) owns bases session →
+    AreInputs (plan_of c) owns outside.inputs → (p : ℕ) (report : PartyReport) → slice_get reports p ≡ Some report →
+    map (λ (bits : Bits). bits.word) report.told ≡ plain_told (plan_of c) outside p) →
     AreRunsOf (outputs_of c) reports runs → text ≡ runs_report (notation_of c) runs →
     ReportsRun (AreHonestParts parts) c v owns (reported text)
 run_reported c seed v parts owns reports runs text owns_are whole keeps plan takes widths serve joint plain told text_is = (
@@ -254,8 +255,8 @@ run_reported c seed v parts owns reports runs text owns_are whole keeps plan tak
             let within = slice_get_within runs p one there in
             let count = told.count in
             let report = some_at reports p (omega (arith, within, count)) in
-            let in_plain : AreToldInPlain (plan_of c) (map number v) p report.0.told = record {
-              words = plain no_needs 0 (map number v) honest_owns inputs_owns p report.0 report.1;
+            let in_plain : AreToldInPlain (plan_of c) (only (map number v)) p report.0.told = record {
+              words = plain no_needs 0 (only (map number v)) honest_owns inputs_owns p report.0 report.1;
               widths = (are.each p report.0 report.1).widths;
             } in
             tells_plainly c p v report.0.told one.outputs all.0 whole keeps widths in_plain all.1

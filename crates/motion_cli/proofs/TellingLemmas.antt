@@ -25,7 +25,7 @@ use Rattle.bristol_reader.proofs.TableLemmas.{have_widths}
 use Rattle.bristol_reader.proofs.ExistsLemmas as bristol_exists
 use Rattle.plan_gates.specs.Gate.{Gate, width_at}
 use Rattle.plan_gates.specs.Plan.{Gates}
-use Rattle.plan_gates.specs.Plain.{plain_before, number_at, GateTold, told_by, plain_numbers}
+use Rattle.plan_gates.specs.Plain.{Outside, only, plain_before, number_at, GateTold, told_by, plain_numbers}
 use Rattle.share_types.specs.Wires.{includes}
 use Rattle.gate_plan.specs.Keeps.{unnamed, KeepsEvaluation}
 use Rattle.gate_plan.specs.Bristol.{told_bits, KeepsBristol}
@@ -56,20 +56,20 @@ vectors_width width number_of (g ∷ gs) =
     ∙ sym (sum_by-cons (λ n. n) (width g) (map width gs)))
 
 -- there is a number for each gate
-length_plain : (gates : List Gate) (inputs : List ℕ) (n : ℕ) → length (plain_before gates inputs n) ≡ n
-length_plain gates inputs zero = refl
-length_plain gates inputs (suc n) =
-    length_push (plain_before gates inputs n)
-    (number_at gates inputs (plain_before gates inputs n) (slice_get gates n))
-    ∙ (ap (λ (k : ℕ). k + 1) (length_plain gates inputs n) ∙ add-one n)
+length_plain : (gates : List Gate) (outside : Outside) (n : ℕ) → length (plain_before gates outside n) ≡ n
+length_plain gates outside zero = refl
+length_plain gates outside (suc n) =
+    length_push (plain_before gates outside n)
+    (number_at gates outside (plain_before gates outside n) (slice_get gates n))
+    ∙ (ap (λ (k : ℕ). k + 1) (length_plain gates outside n) ∙ add-one n)
 
 -- so many bits are told to a party as those of its output gates together
-told_width : (plan : Gates) (inputs : List ℕ) (p : ℕ) →
+told_width : (plan : Gates) (outside : Outside) (p : ℕ) →
     sum (map (width_at plan.gates) (told_to plan p))
-    ≡ length (bits_of_entries (told_by plan.gates (plain_numbers plan inputs)) p)
-told_width plan inputs p =
-    let numbers = plain_numbers plan inputs in
-    let count = length_plain plan.gates inputs (length plan.gates) in
+    ≡ length (bits_of_entries (told_by plan.gates (plain_numbers plan outside)) p)
+told_width plan outside p =
+    let numbers = plain_numbers plan outside in
+    let count = length_plain plan.gates outside (length plan.gates) in
     sym (vectors_width (width_at plan.gates) (slice_index numbers) (told_to plan p))
     ∙ ap length (told_bits_are_those_of_outputs plan numbers p count)
 
@@ -130,8 +130,8 @@ mixed_widths : (c : mixed.Circuit) (plan : Gates) (p : ℕ) → KeepsEvaluation 
     total_width (asked_by p (mixed_table.outputs_of c)) ≡ sum (map (width_at plan.gates) (told_to plan p))
 mixed_widths c plan p keeps =
     let made = values_exist c.statements [] in
-    sym (told_width plan [] p
-    ∙ (ap (λ (es : List GateTold). length (bits_of_entries es p)) (keeps [] made.0 made.1).told_kept
+    sym (told_width plan (only []) p
+    ∙ (ap (λ (es : List GateTold). length (bits_of_entries es p)) (keeps (only []) made.0 made.1).told_kept
     ∙ entries_width c.statements made.0 p c.statements))
 
 -- all bits of a circuit in Bristol Fashion are told to all
@@ -160,8 +160,8 @@ bristol_widths c plan p built keeps =
     let widths : bristol_table.HaveInputWidths c none = record { widths = zeros_widths c.inputs } in
     let made = bristol_exists.wire_bits c none built widths in
     all_asked p 0 c.outputs
-    ∙ sym (told_width plan (map number none) p
-    ∙ (ap (λ (es : List GateTold). length (bits_of_entries es p)) (keeps none made.0 widths made.1)
+    ∙ sym (told_width plan (only (map number none)) p
+    ∙ (ap (λ (es : List GateTold). length (bits_of_entries es p)) (keeps (only (map number none)) none made.0 refl widths made.1)
     ∙ (all_told p (bristol_eval.output_bits c made.0) ∙ bristol_exists.length_outputs c none made.0 built made.1)))
 
 -- the outputs that a party is told have as many bits together as the gates that tell it their values
@@ -175,28 +175,28 @@ told_widths (InBristol b c) p whole keeps = bristol_widths c (plan_of (InBristol
 
 mixed_tells : (c : mixed.Circuit) (plan : Gates) (p : ℕ) (v : List (List Bool)) (told : List Bits)
     (outputs all : List Told) →
-    KeepsEvaluation c plan → AreToldInPlain plan (map number v) p told → mixed_eval.IsPlain c v all →
+    KeepsEvaluation c plan → AreToldInPlain plan (only (map number v)) p told → mixed_eval.IsPlain c v all →
     AreCut (asked_by p (mixed_table.outputs_of c)) (joined_bits told) outputs → outputs ≡ outputs_to p all
 mixed_tells c plan p v told outputs all keeps are plain cut =
-    let kept = keeps (map number v) plain.values plain.evaluated in
+    let kept = keeps (only (map number v)) plain.values plain.evaluated in
     cuts_once (asked_by p (mixed_table.outputs_of c)) (joined_bits told) outputs
     (outputs_to p (mixed_eval.told_of c plain.values)) cut
-    (mixed_outputs_are_told c plan (map number v) plain.values p told kept are)
+    (mixed_outputs_are_told c plan (only (map number v)) plain.values p told kept are)
     ∙ ap (outputs_to p) (sym plain.told)
 
 bristol_tells : (c : bristol.Circuit) (plan : Gates) (p : ℕ) (v : List (List Bool)) (told : List Bits)
     (outputs all : List Told) →
     KeepsBristol c plan → bristol_table.HaveInputWidths c v →
-    AreToldInPlain plan (map number v) p told → bristol_eval.IsPlain c v all →
+    AreToldInPlain plan (only (map number v)) p told → bristol_eval.IsPlain c v all →
     AreCut (asked_by p (bristol_table.outputs_of c)) (joined_bits told) outputs → outputs ≡ outputs_to p all
 bristol_tells c plan p v told outputs all keeps widths are plain cut =
     cuts_once (asked_by p (bristol_table.outputs_of c)) (joined_bits told) outputs (outputs_to p all) cut
-    (bristol_outputs_are_told c plan v plain.bits all p told keeps widths plain.wires plain.told are)
+    (bristol_outputs_are_told c plan (only (map number v)) v plain.bits all p told keeps refl widths plain.wires plain.told are)
 
 -- the outputs that are cut of what a party is told in plain are those of the plain evaluation that it is told
 pub tells_plainly : (c : Circuit) (p : ℕ) (v : List (List Bool)) (told : List Bits) (outputs all : List Told) →
     IsWhole c → Keeps c (plan_of c) → HaveWidths None (inputs_of c) v →
-    AreToldInPlain (plan_of c) (map number v) p told → IsPlain c v all →
+    AreToldInPlain (plan_of c) (only (map number v)) p told → IsPlain c v all →
     AreCut (asked (Some (record { 0 = p })) (outputs_of c)) (joined_bits told) outputs →
     outputs ≡ report.told_to p all
 tells_plainly (Mixed c) p v told outputs all whole keeps widths are plain cut =
