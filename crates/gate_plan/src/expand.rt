@@ -194,11 +194,23 @@ fn push_ands(draft: &mut Draft, wires: &[Wire], ins: &[u32], count: usize) -> Re
         (wire_among wires.now (slice_index ins.now (count + i))).gate)))) }
 {
     for i in 0..count {
-        let x = input_wire(wires, ins, i).gate;
-        let y = input_wire(wires, ins, count + i).gate;
-        push_bit(draft, GateKind::AndB { x, y })?;
+        push_bit(draft, and_at(wires, ins, count, i))?;
     }
     Ok(())
+}
+
+/// The AND at a place of so many.
+fn and_at(wires: &[Wire], ins: &[u32], count: usize, i: usize) -> GateKind
+    requires place { i < count }
+    requires few { count ≤ most_gates }
+    ensures kind { kind_of result ≡ AndB
+        (wire_among wires.now (slice_index ins.now i)).gate
+        (wire_among wires.now (slice_index ins.now (count + i))).gate }
+    ensures stated { stated_width result ≡ None }
+{
+    let x = input_wire(wires, ins, i).gate;
+    let y = input_wire(wires, ins, count + i).gate;
+    GateKind::AndB { x, y }
 }
 
 /// Gives the outputs of a gate of a kind their wires, where `x` is the wire of its first input and `first` the number of
