@@ -7,7 +7,8 @@ use Rattle.gate_plan.proofs.expand.push_ands.Goals as goal
 
 pub push_bit-requires-clause-room : goal.push_bit-requires-clause-room
 push_bit-requires-clause-room c =
-    each_room c.args.draft.now c.loop-i.draft c.loop-i.i c.args.count _ c.loop-i.invariant c.loop-i-test.true c.requires.room
+    each_room c.args.draft.now c.loop-i.draft c.loop-i.i c.args.count _ c.loop-i.invariant c.loop-i-test.true
+    c.requires.room
 
 pub loop-i-preserved : goal.loop-i-preserved
 loop-i-preserved c =

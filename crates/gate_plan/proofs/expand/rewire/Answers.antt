@@ -20,11 +20,13 @@ loop-out-preserved c =
     let same = c.loop-out.invariant.0 in (
       omega arith,
       length-set c.loop-out.wires out c.output_wire.result ∙ c.loop-out.invariant.1,
-      ap₂ (λ (ws : List Wire) (a : Wire). set ws out a) c.loop-out.invariant.2 (c.output_wire.ensures ∙ ap made same)
+      ap₂ (λ (ws : List Wire) (a : Wire). set ws out a) c.loop-out.invariant.2
+          (c.output_wire.ensures ∙ ap made same)
           ∙ sym (rewired_next c.args.wires.now c.args.outs.now made k c.loop-out-test.true),
     )
 
 pub returns : goal.returns
 returns c =
     c.loop-out.invariant.2
-    ∙ rewired_all c.args.wires.now c.args.outs.now (output_wire c.args.kind c.args.x c.args.first) c.loop-out.out-index c.loop-out-test.false
+    ∙ rewired_all c.args.wires.now c.args.outs.now
+    (output_wire c.args.kind c.args.x c.args.first) c.loop-out.out-index c.loop-out-test.false
