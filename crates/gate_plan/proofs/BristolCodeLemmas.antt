@@ -1,5 +1,5 @@
 -- What the code that makes the gates of a circuit in Bristol Fashion does, step by step.
-use Rattle.std.proofs.Common.{ℕ, suc, ◌≡◌, ◌<◌, ◌≤◌, ◌+◌, ◌-◌, ◌%◌, ◌^◌, true, false, List, [], ◌∷◌, ◌++◌, length, map, take, Some, refl, sym, ◌∙◌, ap, ap₂, subst, arith, append-nil, append_assoc}
+use Rattle.std.proofs.Common.{ℕ, suc, ◌≡◌, ◌<◌, ◌≤◌, ◌+◌, ◌-◌, ◌%◌, ◌^◌, true, false, List, [], ◌∷◌, ◌++◌, length, take, Some, sym, ◌∙◌, ap, ap₂, subst, arith, append-nil, append_assoc}
 use Rattle.std.specs.Prelude.{slice_get, slice_index, sum, nat_lt}
 use Rattle.std.specs.List.{list_all, range_with_len}
 use Rattle.std.proofs.lemmas.Bool.{and_parts}
@@ -19,7 +19,7 @@ use Rattle.plan_gates.specs.Gate.{Gate, InB, OutB}
 use Rattle.plan_gates.specs.Plan.{Gates, with_gates}
 use Rattle.gate_plan.specs.declared.wire.Wire.{Wire}
 use Rattle.gate_plan.specs.Blocks.{Lowered, wire_among}
-use Rattle.gate_plan.specs.Bristol.{gates_of_kind, gates_of_gate, bristol_gates_before, all_bristol_gates, bit_gate, input_gates, kind_gates, output_wire, rewired, gates_made, wires_made, wired_before, wired_draft, output_gates, bristol_lowered}
+use Rattle.gate_plan.specs.Bristol.{gates_of_kind, gates_of_gate, bristol_gates_before, all_bristol_gates, bit_gate, input_gates, kind_gates, output_wire, rewired, gates_made, wires_made, wired_before, wired_draft, output_gates}
 use Rattle.gate_plan.proofs.BristolCountLemmas.{few_outs}
 use Rattle.gate_plan.proofs.BristolPlanLemmas.{length_inputs, length_wired, length_outputs, gates_mono, wires_count}
 

@@ -1,13 +1,13 @@
 -- Lowering a circuit in Bristol Fashion keeps the plain evaluation.
-use Rattle.std.proofs.Common.{ℕ, zero, suc, ◌≡◌, ◌<◌, ◌≤◌, ◌+◌, ◌-◌, ◌*◌, ◌/◌, ◌%◌, ◌^◌, Bool, true, false, not, ◌&&◌, ◌||◌, cond, List, [], ◌∷◌, ◌++◌, length, map, take, drop, get_or, Some, None, inl, inr, refl, sym, ◌∙◌, ap, ap₂, subst, arith}
-use Rattle.std.specs.Prelude.{◌==◌, slice_get, slice_index, sum, nat_lt, nat_le, bit_and, bit_xor, option_map}
+use Rattle.std.proofs.Common.{ℕ, zero, suc, ◌≡◌, ◌<◌, ◌≤◌, ◌+◌, ◌-◌, ◌*◌, ◌/◌, ◌%◌, ◌^◌, Bool, true, false, not, ◌&&◌, ◌||◌, cond, List, [], ◌∷◌, ◌++◌, length, map, take, drop, get_or, Some, inl, inr, refl, sym, ◌∙◌, ap, ap₂, subst, arith}
+use Rattle.std.specs.Prelude.{◌==◌, slice_get, slice_index, sum, nat_le, bit_and, bit_xor}
 use Rattle.std.specs.List.{flat_map}
 use Rattle.std.proofs.Math.ListN.{get_or-append}
 use Rattle.std.proofs.lemmas.Bool.{and_parts, or_cases, eqb-true, cases_lt}
-use Rattle.std.proofs.lemmas.List.{length-append, get_or-append-add, get_or-drop, get_or-take, get_or-map, length-drop, drop_more}
+use Rattle.std.proofs.lemmas.List.{get_or-append-add, get_or-drop, get_or-take, get_or-map, length-drop, drop_more}
 use Rattle.std.proofs.lemmas.List.FromFn.{length-range_with_len, get_or-range_with_len}
 use Rattle.std.proofs.lemmas.List.Sums.{sum_by-cons}
-use Rattle.std.proofs.lemmas.Option.{slice_get-map, slice_get-get_or, get_or_from_slice_get}
+use Rattle.std.proofs.lemmas.Option.{slice_get-get_or, get_or_from_slice_get}
 use Rattle.mot_base.specs.Limits.{least_parties, most_parties, most_gates}
 use Rattle.mot_base.proofs.Lists.{inside_of, index_at, before_at, behind_at, mapped_at, all_implied}
 use Rattle.share_types.specs.Sums.{each}
@@ -25,7 +25,7 @@ use Rattle.bristol_reader.specs.Built.{FitsBehind, IsCircuit, first_gates}
 use Rattle.bristol_reader.specs.Table.{HaveInputWidths}
 use Rattle.bristol_reader.specs.Eval.{bit_at, input_bit, AreWireBits, output_bits}
 use Rattle.bristol_reader.proofs.EvalLemmas.{in_set, set_next, among_place, input_alone}
-use Rattle.plan_gates.specs.Gate.{Gate, receiver_of, InB, ConstB, XorB, XorConstB, AndB, OutB}
+use Rattle.plan_gates.specs.Gate.{Gate, InB, ConstB, XorB, XorConstB, AndB, OutB}
 use Rattle.plan_gates.specs.Plan.{IsPlan}
 use Rattle.plan_gates.specs.Plain.{Outside, Seen, number_of, seen_of, gate_number, plain_numbers, GateTold, told_by}
 use Rattle.plan_gates.proofs.NeedsLemmas.{slice_get-each}
@@ -34,8 +34,8 @@ use Rattle.gate_plan.specs.Blocks.{Lowered, wire_among, Stand, AreNumbers}
 use Rattle.gate_plan.specs.Bristol.{all_bristol_gates, bit_gate, input_gates, kind_gates, output_wire, gates_made, wires_made, wired_before, output_gates, bristol_lowered, told_bits, KeepsBristol}
 use Rattle.gate_plan.proofs.NumberLemmas.{length_plain, plans_have_numbers, told_from, told_by_place, told_append, IsSilent, told_nothing}
 use Rattle.gate_plan.proofs.BristolBitLemmas.{IsBit}
-use Rattle.gate_plan.proofs.BristolPlanLemmas.{length_inputs, length_outputs, bits_wired, wired_kept, out_wire, earlier_wire, input_own}
-use Rattle.gate_plan.proofs.BristolValidLemmas.{constant_small, IsOutput, output_at, bristol_is_plan}
+use Rattle.gate_plan.proofs.BristolPlanLemmas.{bits_wired, wired_kept, out_wire, earlier_wire, input_own}
+use Rattle.gate_plan.proofs.BristolValidLemmas.{constant_small, output_at, bristol_is_plan}
 
 -- ---- one gate of a circuit
 

@@ -1,5 +1,5 @@
 -- The gates and the wires of a circuit in Bristol Fashion, one gate of the circuit after another.
-use Rattle.std.proofs.Common.{ℕ, zero, suc, ◌≡◌, ◌<◌, ◌≤◌, ◌+◌, ◌-◌, ◌%◌, true, false, ◌||◌, nat_lt, List, [], ◌∷◌, ◌++◌, length, map, get_or, Option, Some, None, inl, inr, refl, sym, ◌∙◌, ap, subst, arith}
+use Rattle.std.proofs.Common.{ℕ, zero, suc, ◌≡◌, ◌<◌, ◌≤◌, ◌+◌, ◌-◌, ◌%◌, true, false, ◌||◌, nat_lt, List, [], ◌∷◌, length, get_or, Option, Some, None, inl, inr, refl, sym, ◌∙◌, ap, subst, arith}
 use Rattle.std.specs.Prelude.{◌==◌, slice_get, slice_index, sum}
 use Rattle.std.specs.Option.{unwrap_or}
 use Rattle.std.specs.List.{list_all, range_with_len}
@@ -22,11 +22,11 @@ use Rattle.bristol_reader.specs.Stored.{a_gate}
 use Rattle.bristol_reader.specs.Built.{FitsBehind, IsBuilt, first_gates}
 use Rattle.bristol_reader.proofs.BoolLemmas.{below_at}
 use Rattle.bristol_reader.proofs.EvalLemmas.{in_set, set_next, among_place, input_alone, set_not_among}
-use Rattle.plan_gates.specs.Gate.{Gate, Vector, InB, ConstB, XorB, XorConstB, AndB, OutB}
+use Rattle.plan_gates.specs.Gate.{Gate, Vector, InB, AndB, OutB}
 use Rattle.plan_gates.proofs.NeedsLemmas.{slice_get-each}
 use Rattle.gate_plan.specs.declared.wire.Wire.{Wire}
 use Rattle.gate_plan.specs.Blocks.{Lowered, single, wire_among}
-use Rattle.gate_plan.specs.Bristol.{gates_of_kind, gates_of_gate, bristol_gates_before, all_bristol_gates, bit_gate, input_gates, kind_gates, output_wire, rewired, gates_made, wires_made, wired_before, output_gates, bristol_lowered}
+use Rattle.gate_plan.specs.Bristol.{gates_of_kind, gates_of_gate, bristol_gates_before, all_bristol_gates, bit_gate, input_gates, kind_gates, output_wire, gates_made, wires_made, wired_before, output_gates, bristol_lowered}
 use Rattle.gate_plan.proofs.StandLemmas.{grown, IsValue}
 use Rattle.gate_plan.proofs.BristolBitLemmas.{IsBit, AreBits, bits_each, bit_value}
 use Rattle.gate_plan.proofs.BristolWireLemmas.{length_rewired, rewired_out, rewired_other}

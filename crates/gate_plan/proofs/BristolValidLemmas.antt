@@ -1,13 +1,13 @@
 -- The plan of a circuit in Bristol Fashion is valid.
-use Rattle.std.proofs.Common.{ℕ, zero, suc, ◌≡◌, ◌<◌, ◌≤◌, ◌+◌, ◌-◌, ◌%◌, Bool, true, false, cond, nat_lt, List, [], ◌∷◌, ◌++◌, length, map, get_or, Option, Some, None, refl, sym, ◌∙◌, ap, subst, arith}
-use Rattle.std.specs.Prelude.{slice_get, slice_index, sum, option_map}
-use Rattle.std.specs.List.{list_all, range_with_len}
+use Rattle.std.proofs.Common.{ℕ, zero, suc, ◌≡◌, ◌<◌, ◌≤◌, ◌+◌, ◌-◌, ◌%◌, Bool, true, false, cond, nat_lt, List, [], ◌∷◌, length, Option, Some, None, refl, sym, ◌∙◌, ap, subst, arith}
+use Rattle.std.specs.Prelude.{slice_get, slice_index, sum}
+use Rattle.std.specs.List.{list_all}
 use Rattle.std.proofs.Math.Nat.{mod-lt}
 use Rattle.std.proofs.lemmas.Bool.{and_parts}
 use Rattle.std.proofs.lemmas.List.FromFn.{length-range_with_len, get_or-range_with_len}
 use Rattle.std.proofs.lemmas.Option.{slice_get-map, slice_get-get_or}
 use Rattle.mot_base.specs.Limits.{least_parties, most_parties, most_gates}
-use Rattle.mot_base.proofs.Lists.{same_some, mapped_some, inside_of, some_at}
+use Rattle.mot_base.proofs.Lists.{same_some, mapped_some, inside_of}
 use Rattle.share_types.specs.Sums.{each}
 use Rattle.share_types.proofs.Parties.{length-each}
 use Rattle.share_types.specs.declared.receiver.Receiver.TheVariants.{All}
@@ -18,11 +18,11 @@ use Rattle.bristol_reader.specs.Line.{input_bound}
 use Rattle.bristol_reader.specs.Built.{FitsBehind, IsCircuit, first_gates}
 use Rattle.bristol_reader.proofs.BoolLemmas.{below_at}
 use Rattle.bristol_reader.proofs.EvalLemmas.{in_set, all_set, output_set}
-use Rattle.plan_gates.specs.Gate.{Gate, Vector, InB, OutB}
+use Rattle.plan_gates.specs.Gate.{Gate, InB, OutB}
 use Rattle.plan_gates.specs.Plan.{Gates, IsGate, IsPlan}
-use Rattle.gate_plan.specs.Blocks.{Lowered, wire_among}
+use Rattle.gate_plan.specs.Blocks.{wire_among}
 use Rattle.gate_plan.specs.Bristol.{all_bristol_gates, bit_gate, input_gates, gates_made, wired_before, output_gates, bristol_lowered}
-use Rattle.gate_plan.proofs.StandLemmas.{IsValue, later, AllGates, all_none, all_both}
+use Rattle.gate_plan.proofs.StandLemmas.{later, AllGates, all_none, all_both}
 use Rattle.gate_plan.proofs.BristolBitLemmas.{fits_input, fits_output, all_each, kind_fits}
 use Rattle.gate_plan.proofs.BristolPlanLemmas.{fixed_input, length_lowered, set_value}
 

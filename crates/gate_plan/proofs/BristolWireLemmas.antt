@@ -1,10 +1,9 @@
 -- The wire of each wire of a circuit, gate by gate.
-use Rattle.std.proofs.Common.{ℕ, zero, suc, ◌≡◌, ◌<◌, ◌≤◌, ◌+◌, Bool, true, false, not, List, [], ◌∷◌, ◌++◌, length, take, get_or, set, inl, inr, refl, sym, ◌∙◌, ap, arith}
-use Rattle.std.specs.Prelude.{◌==◌, slice_get}
-use Rattle.std.specs.Option.{unwrap_or}
-use Rattle.std.proofs.lemmas.Bool.{and_parts, or_parts, cases_eq, eqb-false}
+use Rattle.std.proofs.Common.{ℕ, zero, suc, ◌≡◌, ◌<◌, ◌≤◌, ◌+◌, true, false, not, List, [], ◌∷◌, ◌++◌, length, take, get_or, set, refl, sym, ◌∙◌, ap, arith}
+use Rattle.std.specs.Prelude.{◌==◌}
+use Rattle.std.proofs.lemmas.Bool.{and_parts, or_parts, eqb-false}
 use Rattle.std.proofs.lemmas.List.{take_more, take_all, length-set, length-take-le, get_or-set_same, get_or-set_other}
-use Rattle.mot_base.proofs.Lists.{not_true, read_at}
+use Rattle.mot_base.proofs.Lists.{not_true}
 use Rattle.bristol_reader.specs.Circuit.{is_among, are_apart}
 use Rattle.gate_plan.specs.declared.wire.Wire.{Wire}
 use Rattle.gate_plan.specs.Blocks.{single, wire_among}

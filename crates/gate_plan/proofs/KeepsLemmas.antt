@@ -1,5 +1,5 @@
 -- Lowering keeps the plain evaluation.
-use Rattle.std.proofs.Common.{ℕ, zero, suc, ◌≡◌, ◌<◌, ◌≤◌, ◌+◌, ◌%◌, ◌^◌, Bool, true, false, cond, List, [], ◌∷◌, ◌++◌, length, map, take, Some, None, inl, inr, refl, sym, ◌∙◌, ap, ap₂, subst, arith, append_assoc}
+use Rattle.std.proofs.Common.{ℕ, zero, suc, ◌≡◌, ◌<◌, ◌≤◌, ◌+◌, ◌%◌, ◌^◌, Bool, true, false, cond, List, [], ◌∷◌, ◌++◌, length, map, take, Some, inl, inr, refl, sym, ◌∙◌, ap, ap₂, subst, arith, append_assoc}
 use Rattle.std.specs.Prelude.{slice_get, slice_index, option_map}
 use Rattle.std.specs.Option.{unwrap_or}
 use Rattle.std.proofs.Math.Nat.{mod-lt, mod-eq_of_lt}
@@ -8,13 +8,11 @@ use Rattle.std.proofs.lemmas.Bool.{cases_lt}
 use Rattle.std.proofs.lemmas.List.{append-nil, map-append, get_or-take}
 use Rattle.std.proofs.lemmas.Nat.{pow_pos}
 use Rattle.mot_base.specs.Limits.{most_width, most_gates}
-use Rattle.mot_base.proofs.Lists.{same_some, inside_of, some_at, index_at, take_next, take_whole}
+use Rattle.mot_base.proofs.Lists.{inside_of, some_at, index_at, take_next, take_whole}
 use Rattle.share_types.specs.Bits.{bits}
 use Rattle.share_types.specs.declared.sharing.WireType.{WireType}
-use Rattle.share_types.specs.declared.receiver.Receiver.{Receiver}
 use Rattle.share_types.specs.Wires.{wire_type, width_of}
 use Rattle.circuit_tables.specs.Table.{Told}
-use Rattle.mixed_language.specs.declared.language.Operation.{Operation}
 use Rattle.mixed_language.specs.declared.language.Operation.TheVariants.{Output}
 use Rattle.mixed_language.specs.declared.operand.Operand.{Operand}
 use Rattle.mixed_language.specs.Language.{gives, states, is_name_slot, is_told_slot, arity_of}
@@ -27,7 +25,7 @@ use Rattle.mixed_language.specs.Eval as eval
 use Rattle.mixed_language.proofs.WidthLemmas.{circuit_wide}
 use Rattle.plan_gates.specs.Gate as plan
 use Rattle.plan_gates.specs.Gate.{Gate, width_at}
-use Rattle.plan_gates.specs.Plan.{Gates, IsPlan}
+use Rattle.plan_gates.specs.Plan.{IsPlan}
 use Rattle.plan_gates.specs.Plain.{Outside, plain_numbers, GateTold, told_entry}
 use Rattle.plan_gates.specs.Plain as plain
 use Rattle.gate_plan.specs.declared.wire.Wire.{Wire}
@@ -39,7 +37,7 @@ use Rattle.gate_plan.proofs.NumberLemmas.{length_plain, plans_have_numbers, told
 use Rattle.gate_plan.proofs.OperationLemmas.{Named, Names, Tells, named, block_silent, Alike, law}
 use Rattle.gate_plan.proofs.BuiltLemmas.{built_at, handles_no_keys, handled_own, statement_of}
 use Rattle.gate_plan.proofs.PlanLemmas.{start, source, block, next, stands, wire_in}
-use Rattle.gate_plan.proofs.ValidLemmas.{row, operand_place, IsEarlier, earlier, IsTold, told, AreValues, valid_to, lowered_is_plan}
+use Rattle.gate_plan.proofs.ValidLemmas.{row, operand_place, earlier, told, valid_to, lowered_is_plan}
 
 -- what is told among one statement more
 among_more : (all : List Statement) (values : List ℕ) (ss : List Statement) (s : Statement) →

@@ -1,14 +1,14 @@
 -- The numbers of a valid plan's gates, and what its gates tell, part by part.
-use Rattle.std.proofs.Common.{ℕ, zero, suc, ◌≡◌, ◌<◌, ◌≤◌, ◌+◌, ◌%◌, ◌^◌, List, [], ◌∷◌, ◌++◌, length, map, Option, Some, None, inl, inr, refl, sym, ◌∙◌, ap, ap₂, subst, arith, append_assoc}
-use Rattle.std.specs.Prelude.{slice_get, slice_index, option_map}
+use Rattle.std.proofs.Common.{ℕ, zero, suc, ◌≡◌, ◌<◌, ◌≤◌, ◌+◌, ◌%◌, ◌^◌, List, [], ◌∷◌, ◌++◌, length, Option, Some, None, inl, inr, refl, sym, ◌∙◌, ap, ap₂, subst, arith, append_assoc}
+use Rattle.std.specs.Prelude.{slice_get, slice_index}
 use Rattle.std.specs.List.{AllByRecursion}
 use Rattle.std.proofs.lemmas.Bool.{cases_lt}
 use Rattle.std.proofs.lemmas.List.{length-append}
 use Rattle.std.proofs.lemmas.Option.{slice_get-map}
-use Rattle.mot_base.proofs.Lists.{mapped_some, index_at, inside_of, before_at, last_at, nothing_behind, all_at}
+use Rattle.mot_base.proofs.Lists.{mapped_some, index_at, inside_of, before_at, last_at, all_at}
 use Rattle.plan_gates.specs.Gate.{Gate, Use, uses, operands, receiver_of, low_width}
 use Rattle.plan_gates.specs.Plan.{Gates, IsOperand, IsPlan}
-use Rattle.plan_gates.specs.Plain.{Outside, operand_number, number_of, gate_number, number_at, plain_before, plain_numbers, GateTold, told_entry, told_by}
+use Rattle.plan_gates.specs.Plain.{Outside, operand_number, number_of, number_at, plain_before, plain_numbers, GateTold, told_entry, told_by}
 use Rattle.gate_plan.specs.Blocks.{AreNumbers}
 
 -- ---- numbers by their places

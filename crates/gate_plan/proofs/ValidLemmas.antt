@@ -1,16 +1,15 @@
 -- The plan of a circuit whose statements are built is valid.
-use Rattle.std.proofs.Common.{ℕ, zero, suc, ◌≡◌, ◌<◌, ◌≤◌, ◌+◌, true, false, cond, List, [], ◌∷◌, length, map, take, Option, Some, None, inl, inr, refl, sym, ◌∙◌, ap, subst, arith}
-use Rattle.std.specs.Prelude.{slice_get, slice_index, IfSome, option_map}
+use Rattle.std.proofs.Common.{ℕ, zero, suc, ◌≡◌, ◌<◌, ◌≤◌, true, cond, List, length, take, Option, Some, None, inl, inr, refl, sym, ◌∙◌, ap, subst, arith}
+use Rattle.std.specs.Prelude.{slice_get, IfSome, option_map}
 use Rattle.std.specs.Option.{unwrap_or}
 use Rattle.std.proofs.lemmas.Bool.{cases_lt}
 use Rattle.std.proofs.lemmas.Option.{slice_get-map}
 use Rattle.mot_base.specs.Limits.{most_gates}
-use Rattle.mot_base.proofs.Lists.{same_some, inside_of, some_at, index_at, taken_at}
+use Rattle.mot_base.proofs.Lists.{same_some, some_at, index_at, taken_at}
 use Rattle.share_types.specs.declared.sharing.Sharing.{Sharing}
 use Rattle.share_types.specs.declared.sharing.Sharing.TheVariants.{A, B, Y}
 use Rattle.share_types.specs.declared.sharing.WireType.{WireType}
 use Rattle.share_types.specs.Wires.{sharing_of, wire_type, width_of, party_told}
-use Rattle.mixed_language.specs.declared.language.Operation.{Operation}
 use Rattle.mixed_language.specs.declared.language.Operation.TheVariants.{Output}
 use Rattle.mixed_language.specs.declared.operand.Operand.{Operand}
 use Rattle.mixed_language.specs.Language.{gives, states, is_name_slot, arity_of}

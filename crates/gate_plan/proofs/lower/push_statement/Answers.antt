@@ -2,11 +2,9 @@ use Rattle.std.proofs.Common.{◌≡◌, false, ◌++◌, ◌∷◌, [], ◌+◌
 use Rattle.std.specs.Prelude.{slice_get}
 use Rattle.mot_base.proofs.Lists.{some_at, on_ok}
 use Rattle.share_types.specs.Wires.{width_of}
-use Rattle.mixed_language.specs.declared.language.Operation.{Operation}
 use Rattle.mixed_language.specs.declared.language.Operation.TheVariants.{ConstBits}
 use Rattle.mixed_language.specs.Circuit.{Shape, shape_of}
 use Rattle.mixed_language.proofs.EvalLemmas.{of_statement}
-use Rattle.gate_plan.specs.declared.wire.Wire.{Wire}
 use Rattle.gate_plan.specs.Lowering.{wire_handled, is_conversion, operand_wire, lowered_to}
 use Rattle.gate_plan.proofs.BuiltLemmas.{built_at, converts_nothing}
 use Rattle.gate_plan.proofs.StatementLemmas.{if_ok, handled, constant_width, code_block, room, draft_next, wires_next, shape_here}
