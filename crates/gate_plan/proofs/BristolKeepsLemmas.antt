@@ -287,8 +287,8 @@ module _ (parties : ℕ) (c : Circuit) (circuit : IsCircuit c) (valid : IsPlan (
       (ap (λ (bs : List Bool). get_or bs w false) (sym wires.given)
       ∙ get_or-take (sum c.inputs) told w false low)))
     where
-      number_at_place : (j : ℕ) → j < length inputs → slice_index (map number inputs) (0 + j) ≡ number
-          (get_or inputs j [])
+      number_at_place : (j : ℕ) → j < length inputs →
+          slice_index (map number inputs) (0 + j) ≡ number (get_or inputs j [])
       number_at_place j h =
           let e : 0 + j ≡ j = omega arith in
           ap (slice_index (map number inputs)) e ∙ get_or-map number inputs j [] 0 h

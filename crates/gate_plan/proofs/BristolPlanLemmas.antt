@@ -64,8 +64,8 @@ length_wired parties c (suc n) =
     let more = length_made v (slice_get c.gates n) in
     omega arith
 
-pub length_outputs : (wires : List Wire) (from n : ℕ) → length (output_gates wires (range_with_len from n))
-    ≡ n
+pub length_outputs : (wires : List Wire) (from n : ℕ) →
+    length (output_gates wires (range_with_len from n)) ≡ n
 length_outputs wires from n =
     length-map (range_with_len from n) (λ (w : ℕ). bit_gate (OutB (wire_among wires w).gate All))
     ∙ length-range_with_len from n
@@ -204,8 +204,8 @@ out_wire parties c n g fits i h =
 -- and a wire that was set keeps its own
 pub earlier_wire : (parties : ℕ) (c : Circuit) (n : ℕ) (g : bristol.Gate) → FitsBehind (first_gates n c) g →
     (w : ℕ) → is_set (first_gates n c) w ≡ true →
-    wire_among (wires_made (wired_before parties c n) (Some g)) w ≡ wire_among
-    (wired_before parties c n).wires w
+    wire_among (wires_made (wired_before parties c n) (Some g)) w
+    ≡ wire_among (wired_before parties c n).wires w
 earlier_wire parties c n g fits w set =
     let v = wired_before parties c n in
     rewired_other v.wires g.outs

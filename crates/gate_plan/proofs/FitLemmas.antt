@@ -1,7 +1,7 @@
 -- The gates of an operation that is built may stand behind those of its operands.
 use Rattle.std.proofs.Common.{ℕ, ◌≡◌, ◌<◌, ◌≤◌, ◌+◌, ◌-◌, ◌^◌, Bool, true, false, cond, List, [], ◌∷◌, length, Some, None, refl, sym, ◌∙◌, subst, arith}
-use Rattle.std.specs.Prelude.{slice_get, IfSome, nat_le, ◌==◌}
-use Rattle.std.specs.List.{list_all}
+use Rattle.std.specs.Prelude.{map, slice_get, IfSome, nat_le, ◌==◌}
+use Rattle.std.specs.List.{list_all, AllByRecursion}
 use Rattle.std.proofs.lemmas.Bool.{eqb-true, leb-true}
 use Rattle.std.proofs.Math.Pow.{pow-sub-lt}
 use Rattle.std.proofs.lemmas.Nat.{pow_pos}
@@ -20,8 +20,8 @@ use Rattle.mixed_language.specs.Language.{domain_of, widths_of, is_in, gives, ar
 use Rattle.mixed_language.specs.Operands.{width_by, alike_width}
 use Rattle.mixed_language.specs.Wide.{IsWide}
 use Rattle.plan_gates.specs.Gate as planned
-use Rattle.plan_gates.specs.Gate.{Kind, Gate, Given, Word, Vector, gate_of, InA, ConstA, AddA, SubA, AddConstA, MulConstA, MulA, OutA, InB, ConstB, XorB, XorConstB, SliceB, JoinB, AndB, OutB}
-use Rattle.plan_gates.specs.Plan.{Gates, IsGate}
+use Rattle.plan_gates.specs.Gate.{Kind, Given, Word, Vector, gate_of, uses, operands, constant_of, party_of, width_at, InA, ConstA, AddA, SubA, AddConstA, MulConstA, MulA, OutA, InB, ConstB, XorB, XorConstB, SliceB, JoinB, AndB, OutB}
+use Rattle.plan_gates.specs.Plan.{Gates, IsOperand, FitWidths, IsGate}
 use Rattle.gate_plan.specs.Blocks.{one, Stand}
 use Rattle.gate_plan.specs.Lowering.{Source, block_of, is_operation_built, is_keys, is_word}
 use Rattle.gate_plan.proofs.StandLemmas.{first_of, IsValue, value_width, value_operand, own_value, bits_gate, word_gate, AllGates, all_one}
@@ -179,13 +179,27 @@ module _ (plan : Gates) (n : ℕ) where
   FitsAlone kind w given = AllGates plan n (gate_of kind w ∷ []) × IsValue plan.gates (n + 1) given n w
 
   alone : (kind : Kind) (w : ℕ) (given : Given) → Stand plan.gates n (gate_of kind w ∷ []) →
-      planned.gives kind ≡ given →
-      IsGate plan n (gate_of kind w) → FitsAlone kind w given
+      planned.gives kind ≡ given → IsGate plan n (gate_of kind w) → FitsAlone kind w given
   alone kind w given stand is gate = (
     all_one plan n (gate_of kind w) gate,
-    own_value plan.gates n (gate_of kind w) given
-        (first_of plan.gates n (gate_of kind w) [] stand) is,
+    own_value plan.gates n (gate_of kind w) given (first_of plan.gates n (gate_of kind w) [] stand) is,
   )
+
+  of_word : (kind : Kind) (w : ℕ) → Stand plan.gates n (gate_of kind w ∷ []) → planned.gives kind ≡ Word →
+      w ≡ most_width → constant_of kind < 2 ^ w → AllByRecursion (IsOperand plan.gates n) (uses kind) →
+      FitWidths kind w (map (width_at plan.gates) (operands kind)) →
+      IfSome (party_of kind) (λ party. party < plan.parties) → FitsAlone kind w Word
+  of_word kind w stand is whole small before fits party =
+      alone kind w Word stand is (word_gate plan n kind w whole small before fits party)
+
+  of_vector : (kind : Kind) (w : ℕ) → Stand plan.gates n (gate_of kind w ∷ []) → planned.gives kind ≡ Vector →
+      1 ≤ w → w ≤ most_width → constant_of kind < 2 ^ w →
+      AllByRecursion (IsOperand plan.gates n) (uses kind) →
+      FitWidths kind w (map (width_at plan.gates) (operands kind)) →
+      IfSome (party_of kind) (λ party. party < plan.parties) → FitsAlone kind w Vector
+  of_vector kind w stand is some most small before fits party =
+      alone kind w Vector stand is
+      (bits_gate plan n kind w (λ e. let contrary = sym is ∙ e in cc) some most small before fits party)
 
   pub fit : (op : Operation) (keys : Bool) (given : Sharing) (v : Source) (stated : ℕ) (os : List Operand)
       (width : ℕ) →
@@ -194,87 +208,90 @@ module _ (plan : Gates) (n : ℕ) where
       1 ≤ v.width → v.width ≤ most_width → v.width ≡ width_of (wire_type (gives op given) width) →
       Stand plan.gates n (block_of op keys v n).gates → IsFit op keys given v
   fit InputWord keys A v stated os width domain names built alike sound some most same stand =
-      let f = alone (InA v.party v.k) v.width Word stand refl
-      (word_gate plan n (InA v.party v.k) v.width same (pow_pos v.width) tt tt sound.party) in
+      let f =
+      of_word (InA v.party v.k) v.width stand refl same (pow_pos v.width)
+      tt tt sound.party in
       record { gates = f.0; value = f.1 }
   fit InputBits false B v stated os width domain names built alike sound some most same stand =
-      let f = alone (InB v.party v.k 0) v.width Vector stand refl
-      (bits_gate plan n (InB v.party v.k 0) v.width (λ e. cc) some most
-      (pow_pos v.width) tt tt sound.party) in
+      let f =
+      of_vector (InB v.party v.k 0) v.width stand refl some most (pow_pos v.width)
+      tt tt sound.party in
       record { gates = f.0; value = f.1 }
   fit ConstWord keys A v stated os width domain names built alike sound some most same stand =
-      let f = alone (ConstA v.constant) v.width Word stand refl
-      (word_gate plan n (ConstA v.constant) v.width same
-      (subst (λ (k : ℕ). v.constant < 2 ^ k) (sound.bare refl ∙ sym same) sound.constant) tt tt tt) in
+      let f =
+      of_word (ConstA v.constant) v.width stand refl same
+      (subst (λ (k : ℕ). v.constant < 2 ^ k) (sound.bare refl ∙ sym same) sound.constant)
+      tt tt tt in
       record { gates = f.0; value = f.1 }
   fit ConstBits false B v stated os width domain names built alike sound some most same stand =
-      let f = alone (ConstB v.constant) v.width Vector stand refl
-      (bits_gate plan n (ConstB v.constant) v.width (λ e. cc) some most
-      (subst (λ (k : ℕ). v.constant < 2 ^ k)
-      (same_some stated width sound.wide ∙ sym same) sound.constant) tt tt tt) in
+      let f =
+      of_vector (ConstB v.constant) v.width stand refl some most
+      (subst (λ (k : ℕ). v.constant < 2 ^ k) (same_some stated width sound.wide ∙ sym same) sound.constant)
+      tt tt tt in
       record { gates = f.0; value = f.1 }
   fit Add keys A v stated os width domain names built alike sound some most same stand =
       let u = two_words plan n Add v stated os width sound sound.arity same in
-      let f = alone (AddA v.x.gate v.y.gate) v.width Word stand refl
-      (word_gate plan n (AddA v.x.gate v.y.gate) v.width same (pow_pos v.width)
-      (value_operand u.0, (value_operand u.1, tt)) (value_width u.0, (value_width u.1, tt)) tt) in
+      let f =
+      of_word (AddA v.x.gate v.y.gate) v.width stand refl same (pow_pos v.width)
+      (value_operand u.0, (value_operand u.1, tt)) (value_width u.0, (value_width u.1, tt)) tt in
       record { gates = f.0; value = f.1 }
   fit Sub keys A v stated os width domain names built alike sound some most same stand =
       let u = two_words plan n Sub v stated os width sound sound.arity same in
-      let f = alone (SubA v.x.gate v.y.gate) v.width Word stand refl
-      (word_gate plan n (SubA v.x.gate v.y.gate) v.width same (pow_pos v.width)
-      (value_operand u.0, (value_operand u.1, tt)) (value_width u.0, (value_width u.1, tt)) tt) in
+      let f =
+      of_word (SubA v.x.gate v.y.gate) v.width stand refl same (pow_pos v.width)
+      (value_operand u.0, (value_operand u.1, tt)) (value_width u.0, (value_width u.1, tt)) tt in
       record { gates = f.0; value = f.1 }
   fit Mul keys A v stated os width domain names built alike sound some most same stand =
       let u = two_words plan n Mul v stated os width sound sound.arity same in
-      let f = alone (MulA v.x.gate v.y.gate) v.width Word stand refl
-      (word_gate plan n (MulA v.x.gate v.y.gate) v.width same (pow_pos v.width)
-      (value_operand u.0, (value_operand u.1, tt)) (value_width u.0, (value_width u.1, tt)) tt) in
+      let f =
+      of_word (MulA v.x.gate v.y.gate) v.width stand refl same (pow_pos v.width)
+      (value_operand u.0, (value_operand u.1, tt)) (value_width u.0, (value_width u.1, tt)) tt in
       record { gates = f.0; value = f.1 }
   fit AddConst keys A v stated os width domain names built alike sound some most same stand =
       let u = one_word plan n AddConst v stated os width sound sound.arity same in
-      let f = alone (AddConstA v.x.gate v.constant) v.width Word stand refl
-      (word_gate plan n (AddConstA v.x.gate v.constant) v.width same
+      let f =
+      of_word (AddConstA v.x.gate v.constant) v.width stand refl same
       (subst (λ (k : ℕ). v.constant < 2 ^ k) (sound.bare refl ∙ sym same) sound.constant)
-      (value_operand u, tt) (value_width u, tt) tt) in
+      (value_operand u, tt) (value_width u, tt) tt in
       record { gates = f.0; value = f.1 }
   fit MulConst keys A v stated os width domain names built alike sound some most same stand =
       let u = one_word plan n MulConst v stated os width sound sound.arity same in
-      let f = alone (MulConstA v.x.gate v.constant) v.width Word stand refl
-      (word_gate plan n (MulConstA v.x.gate v.constant) v.width same
+      let f =
+      of_word (MulConstA v.x.gate v.constant) v.width stand refl same
       (subst (λ (k : ℕ). v.constant < 2 ^ k) (sound.bare refl ∙ sym same) sound.constant)
-      (value_operand u, tt) (value_width u, tt) tt) in
+      (value_operand u, tt) (value_width u, tt) tt in
       record { gates = f.0; value = f.1 }
   fit Xor false B v stated os width domain names built alike sound some most same stand =
       let u = two_vectors plan n Xor v stated os width sound sound.arity sound.wide same in
-      let f = alone (XorB v.x.gate v.y.gate) v.width Vector stand refl
-      (bits_gate plan n (XorB v.x.gate v.y.gate) v.width (λ e. cc) some most (pow_pos v.width)
-      (value_operand u.0, (value_operand u.1, tt)) (value_width u.0, (value_width u.1, tt)) tt) in
+      let f =
+      of_vector (XorB v.x.gate v.y.gate) v.width stand refl some most (pow_pos v.width)
+      (value_operand u.0, (value_operand u.1, tt)) (value_width u.0, (value_width u.1, tt)) tt in
       record { gates = f.0; value = f.1 }
   fit And false B v stated os width domain names built alike sound some most same stand =
       let u = two_vectors plan n And v stated os width sound sound.arity sound.wide same in
-      let f = alone (AndB v.x.gate v.y.gate) v.width Vector stand refl
-      (bits_gate plan n (AndB v.x.gate v.y.gate) v.width (λ e. cc) some most (pow_pos v.width)
-      (value_operand u.0, (value_operand u.1, tt)) (value_width u.0, (value_width u.1, tt)) tt) in
+      let f =
+      of_vector (AndB v.x.gate v.y.gate) v.width stand refl some most (pow_pos v.width)
+      (value_operand u.0, (value_operand u.1, tt)) (value_width u.0, (value_width u.1, tt)) tt in
       record { gates = f.0; value = f.1 }
   fit Not false B v stated os width domain names built alike sound some most same stand =
       let u = one_vector plan n Not v stated os width sound sound.arity sound.wide same in
-      let f = alone (XorConstB v.x.gate (2 ^ v.width - 1)) v.width Vector stand refl
-      (bits_gate plan n (XorConstB v.x.gate (2 ^ v.width - 1)) v.width (λ e. cc) some most
-      (pow-sub-lt v.width (omega arith)) (value_operand u, tt) (value_width u, tt) tt) in
+      let f =
+      of_vector (XorConstB v.x.gate (2 ^ v.width - 1)) v.width stand refl some most
+      (pow-sub-lt v.width (omega arith))
+      (value_operand u, tt) (value_width u, tt) tt in
       record { gates = f.0; value = f.1 }
   fit Slice false B v stated os width domain names built alike sound some most same stand =
       let u = cut_vector plan n Slice v stated os width sound sound.arity sound.wide same in
-      let f = alone (SliceB v.x.gate v.place) v.width Vector stand refl
-      (bits_gate plan n (SliceB v.x.gate v.place) v.width (λ e. cc) some most (pow_pos v.width)
-      (value_operand u.1, tt) ((let low = value_width u.1 in let within = u.2 in omega arith), tt) tt) in
+      let f =
+      of_vector (SliceB v.x.gate v.place) v.width stand refl some most (pow_pos v.width)
+      (value_operand u.1, tt) ((let low = value_width u.1 in let within = u.2 in omega arith), tt) tt in
       record { gates = f.0; value = f.1 }
   fit Join false B v stated os width domain names built alike sound some most same stand =
       let u = joined_vectors plan n Join v stated os width sound sound.arity sound.wide same in
-      let f = alone (JoinB v.x.gate v.y.gate) v.width Vector stand refl
-      (bits_gate plan n (JoinB v.x.gate v.y.gate) v.width (λ e. cc) some most (pow_pos v.width)
+      let f =
+      of_vector (JoinB v.x.gate v.y.gate) v.width stand refl some most (pow_pos v.width)
       (value_operand u.2, (value_operand u.3, tt))
-      (let low = value_width u.2 in let high = value_width u.3 in let both = u.4 in omega arith) tt) in
+      (let low = value_width u.2 in let high = value_width u.3 in let both = u.4 in omega arith) tt in
       record { gates = f.0; value = f.1 }
   fit _ _ _ v stated os width domain names built alike sound some most same stand = cc
 

@@ -77,8 +77,8 @@ module _ (c : Circuit) (circuit : IsCircuit c) (built : all_built c ≡ true) (v
   -- the number of the gate of each statement's wire is the statement's value
   abbrev AreKept : ℕ → Type 0
   AreKept n =
-      (x : ℕ) (t : Statement) → x < n → slice_get all x ≡ Some t → slice_get numbers (block c x t).wire.gate
-      ≡ slice_get values x
+      (x : ℕ) (t : Statement) → x < n → slice_get all x ≡ Some t →
+      slice_get numbers (block c x t).wire.gate ≡ slice_get values x
 
   module _ (n : ℕ) (s : Statement) (there : slice_get all n ≡ Some s) where
     abbrev before : List ℕ
@@ -157,8 +157,8 @@ module _ (c : Circuit) (circuit : IsCircuit c) (built : all_built c ≡ true) (v
     }
 
     -- the number that an output tells is cut by neither width
-    told_whole : (e : s.shape.operation ≡ Output) → number_made s.shape.operation seen % 2 ^
-        (source c n s).width ≡ slice_index values (told_value s)
+    told_whole : (e : s.shape.operation ≡ Output) →
+        number_made s.shape.operation seen % 2 ^ (source c n s).width ≡ slice_index values (told_value s)
     told_whole e =
         let t = told c circuit built n s there e in
         let is = earlier c circuit built n s there 0 t.operand t.first in
@@ -168,8 +168,8 @@ module _ (c : Circuit) (circuit : IsCircuit c) (built : all_built c ≡ true) (v
         ap₂ (λ (m w : ℕ). m % 2 ^ w) made (ap width_handled t.handled)
         ∙ (mod-eq_of_lt small ∙ ap (slice_index values) (sym t.place))
 
-    told_value_is : (e : s.shape.operation ≡ Output) → value_of_statement all outside.inputs before n s
-        ≡ slice_index values (told_value s)
+    told_value_is : (e : s.shape.operation ≡ Output) →
+        value_of_statement all outside.inputs before n s ≡ slice_index values (told_value s)
     told_value_is e =
         let t = told c circuit built n s there e in
         let is = earlier c circuit built n s there 0 t.operand t.first in
@@ -207,12 +207,12 @@ module _ (c : Circuit) (circuit : IsCircuit c) (built : all_built c ≡ true) (v
     }
 
     -- what its gates tell is what the statement tells
-    gate_told : AreKept n → told_from (block c n s).gates (start c n) numbers ≡ map unnamed
-        (told_by all values s)
+    gate_told : AreKept n →
+        told_from (block c n s).gates (start c n) numbers ≡ map unnamed (told_by all values s)
     gate_told kept = by_name (named s.shape.operation)
       where
-        by_name : Named s.shape.operation → told_from (block c n s).gates (start c n) numbers ≡ map unnamed
-            (told_by all values s)
+        by_name : Named s.shape.operation →
+            told_from (block c n s).gates (start c n) numbers ≡ map unnamed (told_by all values s)
         by_name (Names e untold) =
             told_nothing (block c n s).gates (start c n) numbers
             (block_silent s.shape.operation keys (source c n s) (start c n)
@@ -246,8 +246,7 @@ module _ (c : Circuit) (circuit : IsCircuit c) (built : all_built c ≡ true) (v
                 (start c n) numbers
                 ≡ record {
                   to = receiver_of s.shape.party;
-                  bits =
-                      bits (source c n s).width (slice_index numbers (start c n));
+                  bits = bits (source c n s).width (slice_index numbers (start c n));
                 } ∷ []
             either true = refl
             either false = refl
@@ -263,8 +262,8 @@ module _ (c : Circuit) (circuit : IsCircuit c) (built : all_built c ≡ true) (v
             subst P place (gate_value n t (ap (slice_get all) place ∙ here) (kept_to n (omega (arith, h)))))
       ]
 
-  told_to : (n : ℕ) → n ≤ length all → told_from (lowered_to c n).gates 0 numbers ≡ map unnamed
-      (told_among all values (take n all))
+  told_to : (n : ℕ) → n ≤ length all →
+      told_from (lowered_to c n).gates 0 numbers ≡ map unnamed (told_among all values (take n all))
   told_to zero h = refl
   told_to (suc n) h =
       let here = some_at all n (omega (arith, h)) in

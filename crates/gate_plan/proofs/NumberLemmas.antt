@@ -13,8 +13,8 @@ use Rattle.gate_plan.specs.Blocks.{AreNumbers}
 
 -- ---- numbers by their places
 
-pub length_plain : (gates : List Gate) (outside : Outside) (n : ℕ) → length (plain_before gates outside n)
-    ≡ n
+pub length_plain : (gates : List Gate) (outside : Outside) (n : ℕ) →
+    length (plain_before gates outside n) ≡ n
 length_plain gates outside zero = refl
 length_plain gates outside (suc n) =
     let before = length_plain gates outside n in
@@ -41,8 +41,8 @@ module _ (gates : List Gate) (outside : Outside) where
       ]
 
   -- a number is the same behind more gates
-  plain_same : (n i x : ℕ) → x < i → i ≤ n → slice_index (plain_before gates outside i) x ≡ slice_index
-      (plain_before gates outside n) x
+  plain_same : (n i x : ℕ) → x < i → i ≤ n →
+      slice_index (plain_before gates outside i) x ≡ slice_index (plain_before gates outside n) x
   plain_same n i x h le =
       index_at (plain_before gates outside i) x (own x) (plain_at i x h)
       ∙ sym (index_at (plain_before gates outside n) x (own x) (plain_at n x (omega arith)))
