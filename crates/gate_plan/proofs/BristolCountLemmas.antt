@@ -26,7 +26,8 @@ distinct (w ∷ ws) h =
     let parts = and_parts (not (is_among ws w)) (are_apart ws) h in
     (others ws w (not_true (is_among ws w) parts.0), distinct ws parts.1)
 
-below : (n : ℕ) (ws : List ℕ) → list_all (λ w. nat_lt w n) ws ≡ true → (q : ℕ) → list_any (λ w. q == w) ws ≡ true → q < n
+below : (n : ℕ) (ws : List ℕ) → list_all (λ w. nat_lt w n) ws ≡ true →
+    (q : ℕ) → list_any (λ w. q == w) ws ≡ true → q < n
 below n [] h q e = cc
 below n (w ∷ ws) h q e =
     let parts = and_parts (nat_lt w n) (list_all (λ v. nat_lt v n) ws) h in
@@ -36,7 +37,8 @@ below n (w ∷ ws) h q e =
     ]
 
 -- a gate has no more outputs than there are wires
-pub few_outs : (c : Circuit) (at : ℕ) (g : Gate) → IsCircuit c → slice_get c.gates at ≡ Some g → length g.outs ≤ c.wires
+pub few_outs : (c : Circuit) (at : ℕ) (g : Gate) → IsCircuit c → slice_get c.gates at ≡ Some g →
+    length g.outs ≤ c.wires
 few_outs c at g circuit there =
     let fits = circuit.built.each at g there in
     let apart = (and_parts _ (are_apart g.outs) fits.once).1 in
@@ -50,25 +52,31 @@ pub record IsThere (gates : List Gate) (at : ℕ) (kind : BristolKind) (outs : L
   pub kind_is : gate.kind ≡ kind
   pub outs_are : gate.outs ≡ outs
 
-some_there : (gates : List Gate) (at : ℕ) (kind : BristolKind) (outs : List ℕ) (o : Option Gate) → slice_get gates at ≡ o →
-    option_map (λ g. g.kind) o ≡ Some kind → option_map (λ g. g.outs) o ≡ Some outs → IsThere gates at kind outs
+some_there : (gates : List Gate) (at : ℕ) (kind : BristolKind) (outs : List ℕ) (o : Option Gate) →
+    slice_get gates at ≡ o →
+    option_map (λ g. g.kind) o ≡ Some kind → option_map (λ g. g.outs) o ≡ Some outs →
+    IsThere gates at kind outs
 some_there gates at kind outs None e k s = cc
 some_there gates at kind outs (Some g) e k s = record { gate = g; there = e; kind_is = cc; outs_are = cc }
 
 pub is_there : (gates : List Gate) (at : ℕ) (kind : BristolKind) (outs : List ℕ) →
-    option_map (λ g. g.kind) (slice_get gates at) ≡ Some kind → option_map (λ g. g.outs) (slice_get gates at) ≡ Some outs →
+    option_map (λ g. g.kind) (slice_get gates at) ≡ Some kind → option_map (λ g. g.outs) (slice_get gates at)
+    ≡ Some outs →
     IsThere gates at kind outs
 is_there gates at kind outs k s = some_there gates at kind outs (slice_get gates at) refl k s
 
 -- how many gates it has
-pub count_there : (keys : Bool) (gates : List Gate) (at : ℕ) (kind : BristolKind) (outs : List ℕ) → IsThere gates at kind outs →
+pub count_there : (keys : Bool) (gates : List Gate) (at : ℕ) (kind : BristolKind) (outs : List ℕ) →
+    IsThere gates at kind outs →
     gates_of_kind keys kind (length outs) ≡ gates_of_gate keys (slice_get gates at)
 count_there keys gates at kind outs is =
-    ap₂ (λ (k : BristolKind) (ws : List ℕ). gates_of_kind keys k (length ws)) (sym is.kind_is) (sym is.outs_are)
+    ap₂ (λ (k : BristolKind) (ws : List ℕ). gates_of_kind keys k (length ws)) (sym is.kind_is)
+    (sym is.outs_are)
     ∙ sym (ap (gates_of_gate keys) is.there)
 
 -- how many outputs it has
-pub few_there : (c : Circuit) (at : ℕ) (kind : BristolKind) (outs : List ℕ) → IsCircuit c → IsThere c.gates at kind outs →
+pub few_there : (c : Circuit) (at : ℕ) (kind : BristolKind) (outs : List ℕ) → IsCircuit c →
+    IsThere c.gates at kind outs →
     length outs ≤ most_wires
 few_there c at kind outs circuit is =
     let few = few_outs c at is.gate circuit is.there in

@@ -13,49 +13,63 @@ use Rattle.gate_plan.proofs.OperationLemmas.{own_handled}
 
 -- ---- tests of all statements, one after another
 
-all_append : {X : Type 0} (test : X → Bool) (xs : List X) (x : X) → list_all test xs ≡ true → test x ≡ true → list_all test (xs ++ x ∷ []) ≡ true
+all_append : {X : Type 0} (test : X → Bool) (xs : List X) (x : X) → list_all test xs ≡ true → test x ≡ true →
+    list_all test (xs ++ x ∷ []) ≡ true
 all_append test [] x all e = ap (λ b. b && true) e
 all_append test (y ∷ ys) x all e =
     let parts = both_true (test y) (list_all test ys) all in
     ap₂ (λ a b. a && b) parts.0 (all_append test ys x parts.1 e)
 
-pub all_next : {X : Type 0} (test : X → Bool) (xs : List X) (n : ℕ) (x : X) → slice_get xs n ≡ Some x → list_all test (take n xs) ≡ true →
+pub all_next : {X : Type 0} (test : X → Bool) (xs : List X) (n : ℕ) (x : X) → slice_get xs n ≡ Some x →
+    list_all test (take n xs) ≡ true →
     test x ≡ true → list_all test (take (n + 1) xs) ≡ true
-all_next test xs n x there all e = ap (list_all test) (take_next xs n x there) ∙ all_append test (take n xs) x all e
+all_next test xs n x there all e = ap (list_all test) (take_next xs n x there)
+    ∙ all_append test (take n xs) x all e
 
-pub not_all : {X : Type 0} (test : X → Bool) (xs : List X) (n : ℕ) (x : X) → slice_get xs n ≡ Some x → test x ≡ false → list_all test xs ≡ false
+pub not_all : {X : Type 0} (test : X → Bool) (xs : List X) (n : ℕ) (x : X) → slice_get xs n ≡ Some x →
+    test x ≡ false → list_all test xs ≡ false
 not_all test [] n x there e = cc
 not_all test (y ∷ ys) zero x there e = ap (λ b. b && list_all test ys) (ap test (same_some y x there) ∙ e)
-not_all test (y ∷ ys) (suc n) x there e = ap (λ b. test y && b) (not_all test ys n x there e) ∙ and_false (test y)
+not_all test (y ∷ ys) (suc n) x there e = ap (λ b. test y && b) (not_all test ys n x there e)
+    ∙ and_false (test y)
 
-test_at : {X : Type 0} (test : X → Bool) (xs : List X) (n : ℕ) (x : X) → list_all test xs ≡ true → slice_get xs n ≡ Some x → test x ≡ true
+test_at : {X : Type 0} (test : X → Bool) (xs : List X) (n : ℕ) (x : X) → list_all test xs ≡ true →
+    slice_get xs n ≡ Some x → test x ≡ true
 test_at test [] n x all e = cc
-test_at test (y ∷ ys) zero x all e = ap test (sym (same_some y x e)) ∙ (both_true (test y) (list_all test ys) all).0
+test_at test (y ∷ ys) zero x all e = ap test (sym (same_some y x e))
+    ∙ (both_true (test y) (list_all test ys) all).0
 test_at test (y ∷ ys) (suc n) x all e = test_at test ys n x (both_true (test y) (list_all test ys) all).1 e
 
 -- ---- a statement that is built
 
-pub built_at : (c : Circuit) (at : ℕ) (s : Statement) → all_built c ≡ true → slice_get c.statements at ≡ Some s → is_built c.statements s ≡ true
+pub built_at : (c : Circuit) (at : ℕ) (s : Statement) → all_built c ≡ true →
+    slice_get c.statements at ≡ Some s → is_built c.statements s ≡ true
 built_at c at s built there = test_at (is_built c.statements) c.statements at s built there
 
 -- it converts nothing, and what it handles is not shared as keys
-pub converts_nothing : (all : List Statement) (s : Statement) → is_built all s ≡ true → is_conversion s.shape.operation ≡ false
+pub converts_nothing : (all : List Statement) (s : Statement) → is_built all s ≡ true →
+    is_conversion s.shape.operation ≡ false
 converts_nothing all s built =
-    not_true (is_conversion s.shape.operation) (both_true (not (is_conversion s.shape.operation)) (not (is_keys (wire_handled all s))) built).0
+    not_true (is_conversion s.shape.operation)
+    (both_true (not (is_conversion s.shape.operation)) (not (is_keys (wire_handled all s))) built).0
 
-pub handles_no_keys : (all : List Statement) (s : Statement) → is_built all s ≡ true → is_keys (wire_handled all s) ≡ false
+pub handles_no_keys : (all : List Statement) (s : Statement) → is_built all s ≡ true →
+    is_keys (wire_handled all s) ≡ false
 handles_no_keys all s built =
-    not_true (is_keys (wire_handled all s)) (both_true (not (is_conversion s.shape.operation)) (not (is_keys (wire_handled all s))) built).1
+    not_true (is_keys (wire_handled all s))
+    (both_true (not (is_conversion s.shape.operation)) (not (is_keys (wire_handled all s))) built).1
 
 -- a value is what its own statement handles
-pub handled_own : (c : Circuit) (at : ℕ) (s : Statement) (w : WireType) → IsCircuit c → slice_get c.statements at ≡ Some s → s.wire ≡ Some w →
+pub handled_own : (c : Circuit) (at : ℕ) (s : Statement) (w : WireType) → IsCircuit c →
+    slice_get c.statements at ≡ Some s → s.wire ≡ Some w →
     (wire_handled c.statements s ≡ Some w) × (states is_name_slot s.shape.operation ≡ true)
 handled_own c at s w circuit there own = by_name (states is_name_slot s.shape.operation) refl
   where
     row : IsStatement c.parties (take at c.statements) s
     row = circuit.each at s there
 
-    by_name : (b : Bool) → states is_name_slot s.shape.operation ≡ b → (wire_handled c.statements s ≡ Some w) × (states is_name_slot s.shape.operation ≡ true)
+    by_name : (b : Bool) → states is_name_slot s.shape.operation ≡ b →
+        (wire_handled c.statements s ≡ Some w) × (states is_name_slot s.shape.operation ≡ true)
     by_name true e = (own_handled s.shape.operation (wire_at c.statements (told_value s)) s.wire e ∙ own, e)
     by_name false e =
         let none : s.wire ≡ None = row.wire ∙ rw e refl in
@@ -63,6 +77,7 @@ handled_own c at s w circuit there own = by_name (states is_name_slot s.shape.op
         cc
 
 -- the statement of a value
-pub statement_of : (o : Option Statement) (w : WireType) → option_and_then (λ s. s.wire) o ≡ Some w → (s : Statement) × (o ≡ Some s) × (s.wire ≡ Some w)
+pub statement_of : (o : Option Statement) (w : WireType) → option_and_then (λ s. s.wire) o ≡ Some w →
+    (s : Statement) × (o ≡ Some s) × (s.wire ≡ Some w)
 statement_of None w e = cc
 statement_of (Some s) w e = (s, refl, e)

@@ -1,7 +1,7 @@
 -- The gates of an operation that is built may stand behind those of its operands.
-use Rattle.std.proofs.Common.{ℕ, ◌≡◌, ◌<◌, ◌≤◌, ◌+◌, ◌-◌, ◌^◌, Bool, true, false, cond, List, [], ◌∷◌, length, Option, Some, None, refl, sym, ◌∙◌, ap, ap₂, subst, arith}
-use Rattle.std.specs.Prelude.{slice_get, IfSome, nat_le, ◌==◌}
-use Rattle.std.specs.List.{list_all}
+use Rattle.std.proofs.Common.{ℕ, ◌≡◌, ◌<◌, ◌≤◌, ◌+◌, ◌-◌, ◌^◌, Bool, true, false, cond, List, [], ◌∷◌, length, Some, None, refl, sym, ◌∙◌, subst, arith}
+use Rattle.std.specs.Prelude.{map, slice_get, IfSome, nat_le, ◌==◌}
+use Rattle.std.specs.List.{list_all, AllByRecursion}
 use Rattle.std.proofs.lemmas.Bool.{eqb-true, leb-true}
 use Rattle.std.proofs.Math.Pow.{pow-sub-lt}
 use Rattle.std.proofs.lemmas.Nat.{pow_pos}
@@ -13,15 +13,15 @@ use Rattle.share_types.specs.declared.sharing.WireType.{WireType}
 use Rattle.share_types.specs.declared.sharing.WireType.TheVariants as wire
 use Rattle.share_types.specs.Wires.{sharing_of, is_shared, wire_type, width_of, party_told}
 use Rattle.mixed_language.specs.declared.language.Operation.{Operation}
-use Rattle.mixed_language.specs.declared.language.Operation.TheVariants.{InputWord, InputBits, ConstWord, ConstBits, Add, Sub, Mul, AddConst, MulConst, Xor, And, Not, Slice, Join, A2Y, A2B, B2Y, Y2B, B2A, Y2A, Output}
+use Rattle.mixed_language.specs.declared.language.Operation.TheVariants.{InputWord, InputBits, ConstWord, ConstBits, Add, Sub, Mul, AddConst, MulConst, Xor, And, Not, Slice, Join, Output}
 use Rattle.mixed_language.specs.declared.operand.Operand.{Operand}
 use Rattle.mixed_language.specs.declared.language.Widths.TheVariants.{Cut, Joined}
 use Rattle.mixed_language.specs.Language.{domain_of, widths_of, is_in, gives, arity_of, states, is_name_slot, is_width_slot}
 use Rattle.mixed_language.specs.Operands.{width_by, alike_width}
 use Rattle.mixed_language.specs.Wide.{IsWide}
 use Rattle.plan_gates.specs.Gate as planned
-use Rattle.plan_gates.specs.Gate.{Kind, Gate, Given, Word, Vector, gate_of, InA, ConstA, AddA, SubA, AddConstA, MulConstA, MulA, OutA, InB, ConstB, XorB, XorConstB, SliceB, JoinB, AndB, OutB}
-use Rattle.plan_gates.specs.Plan.{Gates, IsGate}
+use Rattle.plan_gates.specs.Gate.{Kind, Given, Word, Vector, gate_of, uses, operands, constant_of, party_of, width_at, InA, ConstA, AddA, SubA, AddConstA, MulConstA, MulA, OutA, InB, ConstB, XorB, XorConstB, SliceB, JoinB, AndB, OutB}
+use Rattle.plan_gates.specs.Plan.{Gates, IsOperand, FitWidths, IsGate}
 use Rattle.gate_plan.specs.Blocks.{one, Stand}
 use Rattle.gate_plan.specs.Lowering.{Source, block_of, is_operation_built, is_keys, is_word}
 use Rattle.gate_plan.proofs.StandLemmas.{first_of, IsValue, value_width, value_operand, own_value, bits_gate, word_gate, AllGates, all_one}
@@ -71,52 +71,68 @@ tested true n width e = (refl, same_some n width e)
 tested false n width e = cc
 
 one_width : (x : Operand) (width : ℕ) → alike_width (x ∷ []) ≡ Some width → width_of x.wire ≡ width
-one_width x width e = (tested (list_all (λ (z : Operand). width_of z.wire == width_of x.wire) (x ∷ [])) (width_of x.wire) width e).1
+one_width x width e =
+    (tested (list_all (λ (z : Operand). width_of z.wire == width_of x.wire) (x ∷ []))
+    (width_of x.wire) width e).1
 
-two_widths : (x y : Operand) (width : ℕ) → alike_width (x ∷ y ∷ []) ≡ Some width → (width_of x.wire ≡ width) × (width_of y.wire ≡ width)
+two_widths : (x y : Operand) (width : ℕ) → alike_width (x ∷ y ∷ []) ≡ Some width →
+    (width_of x.wire ≡ width) × (width_of y.wire ≡ width)
 two_widths x y width e =
-    let parts = tested (list_all (λ (z : Operand). width_of z.wire == width_of x.wire) (x ∷ y ∷ [])) (width_of x.wire) width e in
-    let first = both_true (width_of x.wire == width_of x.wire) (list_all (λ (z : Operand). width_of z.wire == width_of x.wire) (y ∷ [])) parts.0 in
+    let parts = tested (list_all (λ (z : Operand). width_of z.wire == width_of x.wire) (x ∷ y ∷ []))
+    (width_of x.wire) width e in
+    let first =
+    both_true (width_of x.wire == width_of x.wire)
+    (list_all (λ (z : Operand). width_of z.wire == width_of x.wire) (y ∷ [])) parts.0 in
     let second = both_true (width_of y.wire == width_of x.wire) true first.1 in
     (parts.1, eqb-true _ _ second.0 ∙ parts.1)
 
 -- ---- operands
 
--- what an operation stands on, from what its line states: its operands are values before a place, as many as it takes
--- and shared so, and its numbers are in order
-pub record Sound (plan : Gates) (n : ℕ) (op : Operation) (given : Sharing) (v : Source) (stated : ℕ) (os : List Operand) (width : ℕ) : Type 0 where
+-- what an operation stands on, from what its line states: its operands are values before a place, as many
+-- as it takes and shared so, and its numbers are in order
+pub record Sound (plan : Gates) (n : ℕ) (op : Operation) (given : Sharing) (v : Source) (stated : ℕ)
+    (os : List Operand) (width : ℕ) : Type 0 where
   pub arity : length os ≡ arity_of op
   pub wide : width_by (widths_of op) stated v.place os ≡ Some width
   pub shared : (i : ℕ) (o : Operand) → slice_get os i ≡ Some o → is_shared given o.wire ≡ true
-  pub x : (o : Operand) → slice_get os 0 ≡ Some o → IsValue plan.gates n (given_of given) v.x.gate (width_of o.wire)
-  pub y : (o : Operand) → slice_get os 1 ≡ Some o → IsValue plan.gates n (given_of given) v.y.gate (width_of o.wire)
+  pub x : (o : Operand) → slice_get os 0 ≡ Some o → IsValue plan.gates n (given_of given) v.x.gate
+      (width_of o.wire)
+  pub y : (o : Operand) → slice_get os 1 ≡ Some o → IsValue plan.gates n (given_of given) v.y.gate
+      (width_of o.wire)
   pub party : v.party < plan.parties
   pub to : IfSome (party_told v.to) (λ party. party < plan.parties)
   pub constant : v.constant < 2 ^ stated
   pub bare : states is_width_slot op ≡ false → stated ≡ most_width
 
-module _ (plan : Gates) (n : ℕ) (op : Operation) (v : Source) (stated : ℕ) (os : List Operand) (width : ℕ) where
-  one_word : Sound plan n op A v stated os width → length os ≡ 1 → v.width ≡ most_width → IsValue plan.gates n Word v.x.gate v.width
+module _ (plan : Gates) (n : ℕ) (op : Operation) (v : Source) (stated : ℕ) (os : List Operand)
+    (width : ℕ) where
+  one_word : Sound plan n op A v stated os width → length os ≡ 1 → v.width ≡ most_width →
+      IsValue plan.gates n Word v.x.gate v.width
   one_word sound one whole =
       let t = one_operand os one in
-      subst (IsValue plan.gates n Word v.x.gate) (word_wide t.x.wire (sound.shared 0 t.x t.first) ∙ sym whole) (sound.x t.x t.first)
+      subst (IsValue plan.gates n Word v.x.gate)
+      (word_wide t.x.wire (sound.shared 0 t.x t.first) ∙ sym whole) (sound.x t.x t.first)
 
   two_words : Sound plan n op A v stated os width → length os ≡ 2 → v.width ≡ most_width →
       IsValue plan.gates n Word v.x.gate v.width × IsValue plan.gates n Word v.y.gate v.width
   two_words sound two whole =
       let t = two_operands os two in (
-        subst (IsValue plan.gates n Word v.x.gate) (word_wide t.x.wire (sound.shared 0 t.x t.first) ∙ sym whole) (sound.x t.x t.first),
-        subst (IsValue plan.gates n Word v.y.gate) (word_wide t.y.wire (sound.shared 1 t.y t.second) ∙ sym whole) (sound.y t.y t.second),
+        subst (IsValue plan.gates n Word v.x.gate)
+            (word_wide t.x.wire (sound.shared 0 t.x t.first) ∙ sym whole) (sound.x t.x t.first),
+        subst (IsValue plan.gates n Word v.y.gate)
+            (word_wide t.y.wire (sound.shared 1 t.y t.second) ∙ sym whole) (sound.y t.y t.second),
       )
 
-  one_vector : Sound plan n op B v stated os width → length os ≡ 1 → alike_width os ≡ Some width → v.width ≡ width →
+  one_vector : Sound plan n op B v stated os width → length os ≡ 1 → alike_width os ≡ Some width →
+      v.width ≡ width →
       IsValue plan.gates n Vector v.x.gate v.width
   one_vector sound one alike same =
       let t = one_operand os one in
       let w = one_width t.x width (subst (λ zs. alike_width zs ≡ Some width) t.is alike) in
       subst (IsValue plan.gates n Vector v.x.gate) (w ∙ sym same) (sound.x t.x t.first)
 
-  two_vectors : Sound plan n op B v stated os width → length os ≡ 2 → alike_width os ≡ Some width → v.width ≡ width →
+  two_vectors : Sound plan n op B v stated os width → length os ≡ 2 → alike_width os ≡ Some width →
+      v.width ≡ width →
       IsValue plan.gates n Vector v.x.gate v.width × IsValue plan.gates n Vector v.y.gate v.width
   two_vectors sound two alike same =
       let t = two_operands os two in
@@ -126,21 +142,27 @@ module _ (plan : Gates) (n : ℕ) (op : Operation) (v : Source) (stated : ℕ) (
       )
 
   -- bits that are cut out lie within the operand
-  cut_vector : Sound plan n op B v stated os width → length os ≡ 1 → width_by Cut stated v.place os ≡ Some width → v.width ≡ width →
+  cut_vector : Sound plan n op B v stated os width → length os ≡ 1 →
+      width_by Cut stated v.place os ≡ Some width → v.width ≡ width →
       (low : ℕ) × IsValue plan.gates n Vector v.x.gate low × (v.place + v.width ≤ low)
   cut_vector sound one cut same =
       let t = one_operand os one in
-      let parted = tested (nat_le (v.place + stated) (width_of t.x.wire)) stated width (subst (λ zs. width_by Cut stated v.place zs ≡ Some width) t.is cut) in
+      let parted = tested (nat_le (v.place + stated) (width_of t.x.wire)) stated width
+      (subst (λ zs. width_by Cut stated v.place zs ≡ Some width) t.is cut) in
       let within = leb-true _ _ parted.0 in
       let whole = parted.1 in
       (width_of t.x.wire, sound.x t.x t.first, omega (arith, within, whole, same))
 
   -- bits that are joined are those of both operands
-  joined_vectors : Sound plan n op B v stated os width → length os ≡ 2 → width_by Joined stated v.place os ≡ Some width → v.width ≡ width →
-      (low high : ℕ) × IsValue plan.gates n Vector v.x.gate low × IsValue plan.gates n Vector v.y.gate high × (v.width ≡ low + high)
+  joined_vectors : Sound plan n op B v stated os width → length os ≡ 2 →
+      width_by Joined stated v.place os ≡ Some width → v.width ≡ width →
+      (low high : ℕ) × IsValue plan.gates n Vector v.x.gate low × IsValue plan.gates n Vector v.y.gate high ×
+      (v.width ≡ low + high)
   joined_vectors sound two joined same =
       let t = two_operands os two in
-      let parted = tested (nat_le (width_of t.x.wire + width_of t.y.wire) most_width) (width_of t.x.wire + width_of t.y.wire) width (subst (λ zs. width_by Joined stated v.place zs ≡ Some width) t.is joined) in
+      let parted = tested (nat_le (width_of t.x.wire + width_of t.y.wire) most_width)
+      (width_of t.x.wire + width_of t.y.wire) width
+      (subst (λ zs. width_by Joined stated v.place zs ≡ Some width) t.is joined) in
       (width_of t.x.wire, width_of t.y.wire, sound.x t.x t.first, sound.y t.y t.second, same ∙ sym parted.1)
 
 -- ---- each operation
@@ -149,92 +171,155 @@ module _ (plan : Gates) (n : ℕ) where
   -- the gates of an operation may stand where they do, and give its value
   pub record IsFit (op : Operation) (keys : Bool) (given : Sharing) (v : Source) : Type 0 where
     pub gates : AllGates plan n (block_of op keys v n).gates
-    pub value : IsValue plan.gates (n + length (block_of op keys v n).gates) (given_of (gives op given)) (block_of op keys v n).wire.gate v.width
+    pub value : IsValue plan.gates (n + length (block_of op keys v n).gates) (given_of (gives op given))
+        (block_of op keys v n).wire.gate v.width
 
   -- both of one gate
   abbrev FitsAlone : Kind → ℕ → Given → Type 0
   FitsAlone kind w given = AllGates plan n (gate_of kind w ∷ []) × IsValue plan.gates (n + 1) given n w
 
-  alone : (kind : Kind) (w : ℕ) (given : Given) → Stand plan.gates n (gate_of kind w ∷ []) → planned.gives kind ≡ given →
-      IsGate plan n (gate_of kind w) → FitsAlone kind w given
-  alone kind w given stand is gate =
-      (all_one plan n (gate_of kind w) gate, own_value plan.gates n (gate_of kind w) given (first_of plan.gates n (gate_of kind w) [] stand) is)
+  alone : (kind : Kind) (w : ℕ) (given : Given) → Stand plan.gates n (gate_of kind w ∷ []) →
+      planned.gives kind ≡ given → IsGate plan n (gate_of kind w) → FitsAlone kind w given
+  alone kind w given stand is gate = (
+    all_one plan n (gate_of kind w) gate,
+    own_value plan.gates n (gate_of kind w) given (first_of plan.gates n (gate_of kind w) [] stand) is,
+  )
 
-  pub fit : (op : Operation) (keys : Bool) (given : Sharing) (v : Source) (stated : ℕ) (os : List Operand) (width : ℕ) →
+  of_word : (kind : Kind) (w : ℕ) → Stand plan.gates n (gate_of kind w ∷ []) → planned.gives kind ≡ Word →
+      w ≡ most_width → constant_of kind < 2 ^ w → AllByRecursion (IsOperand plan.gates n) (uses kind) →
+      FitWidths kind w (map (width_at plan.gates) (operands kind)) →
+      IfSome (party_of kind) (λ party. party < plan.parties) → FitsAlone kind w Word
+  of_word kind w stand is whole small before fits party =
+      alone kind w Word stand is (word_gate plan n kind w whole small before fits party)
+
+  of_vector : (kind : Kind) (w : ℕ) → Stand plan.gates n (gate_of kind w ∷ []) → planned.gives kind ≡ Vector →
+      1 ≤ w → w ≤ most_width → constant_of kind < 2 ^ w →
+      AllByRecursion (IsOperand plan.gates n) (uses kind) →
+      FitWidths kind w (map (width_at plan.gates) (operands kind)) →
+      IfSome (party_of kind) (λ party. party < plan.parties) → FitsAlone kind w Vector
+  of_vector kind w stand is some most small before fits party =
+      alone kind w Vector stand is
+      (bits_gate plan n kind w (λ e. let contrary = sym is ∙ e in cc) some most small before fits party)
+
+  pub fit : (op : Operation) (keys : Bool) (given : Sharing) (v : Source) (stated : ℕ) (os : List Operand)
+      (width : ℕ) →
       is_in (domain_of op) given ≡ true → states is_name_slot op ≡ true → is_operation_built op keys ≡ true →
       keys ≡ is_keys (Some (wire_type (gives op given) width)) → Sound plan n op given v stated os width →
       1 ≤ v.width → v.width ≤ most_width → v.width ≡ width_of (wire_type (gives op given) width) →
       Stand plan.gates n (block_of op keys v n).gates → IsFit op keys given v
   fit InputWord keys A v stated os width domain names built alike sound some most same stand =
-      let f = alone (InA v.party v.k) v.width Word stand refl (word_gate plan n (InA v.party v.k) v.width same (pow_pos v.width) tt tt sound.party) in
+      let f =
+      of_word (InA v.party v.k) v.width stand refl same (pow_pos v.width)
+      tt tt sound.party in
       record { gates = f.0; value = f.1 }
   fit InputBits false B v stated os width domain names built alike sound some most same stand =
-      let f = alone (InB v.party v.k 0) v.width Vector stand refl (bits_gate plan n (InB v.party v.k 0) v.width (λ e. cc) some most (pow_pos v.width) tt tt sound.party) in
+      let f =
+      of_vector (InB v.party v.k 0) v.width stand refl some most (pow_pos v.width)
+      tt tt sound.party in
       record { gates = f.0; value = f.1 }
   fit ConstWord keys A v stated os width domain names built alike sound some most same stand =
-      let f = alone (ConstA v.constant) v.width Word stand refl (word_gate plan n (ConstA v.constant) v.width same (subst (λ (k : ℕ). v.constant < 2 ^ k) (sound.bare refl ∙ sym same) sound.constant) tt tt tt) in
+      let f =
+      of_word (ConstA v.constant) v.width stand refl same
+      (subst (λ (k : ℕ). v.constant < 2 ^ k) (sound.bare refl ∙ sym same) sound.constant)
+      tt tt tt in
       record { gates = f.0; value = f.1 }
   fit ConstBits false B v stated os width domain names built alike sound some most same stand =
-      let f = alone (ConstB v.constant) v.width Vector stand refl (bits_gate plan n (ConstB v.constant) v.width (λ e. cc) some most (subst (λ (k : ℕ). v.constant < 2 ^ k) (same_some stated width sound.wide ∙ sym same) sound.constant) tt tt tt) in
+      let f =
+      of_vector (ConstB v.constant) v.width stand refl some most
+      (subst (λ (k : ℕ). v.constant < 2 ^ k) (same_some stated width sound.wide ∙ sym same) sound.constant)
+      tt tt tt in
       record { gates = f.0; value = f.1 }
   fit Add keys A v stated os width domain names built alike sound some most same stand =
       let u = two_words plan n Add v stated os width sound sound.arity same in
-      let f = alone (AddA v.x.gate v.y.gate) v.width Word stand refl (word_gate plan n (AddA v.x.gate v.y.gate) v.width same (pow_pos v.width) (value_operand u.0, (value_operand u.1, tt)) (value_width u.0, (value_width u.1, tt)) tt) in
+      let f =
+      of_word (AddA v.x.gate v.y.gate) v.width stand refl same (pow_pos v.width)
+      (value_operand u.0, (value_operand u.1, tt)) (value_width u.0, (value_width u.1, tt)) tt in
       record { gates = f.0; value = f.1 }
   fit Sub keys A v stated os width domain names built alike sound some most same stand =
       let u = two_words plan n Sub v stated os width sound sound.arity same in
-      let f = alone (SubA v.x.gate v.y.gate) v.width Word stand refl (word_gate plan n (SubA v.x.gate v.y.gate) v.width same (pow_pos v.width) (value_operand u.0, (value_operand u.1, tt)) (value_width u.0, (value_width u.1, tt)) tt) in
+      let f =
+      of_word (SubA v.x.gate v.y.gate) v.width stand refl same (pow_pos v.width)
+      (value_operand u.0, (value_operand u.1, tt)) (value_width u.0, (value_width u.1, tt)) tt in
       record { gates = f.0; value = f.1 }
   fit Mul keys A v stated os width domain names built alike sound some most same stand =
       let u = two_words plan n Mul v stated os width sound sound.arity same in
-      let f = alone (MulA v.x.gate v.y.gate) v.width Word stand refl (word_gate plan n (MulA v.x.gate v.y.gate) v.width same (pow_pos v.width) (value_operand u.0, (value_operand u.1, tt)) (value_width u.0, (value_width u.1, tt)) tt) in
+      let f =
+      of_word (MulA v.x.gate v.y.gate) v.width stand refl same (pow_pos v.width)
+      (value_operand u.0, (value_operand u.1, tt)) (value_width u.0, (value_width u.1, tt)) tt in
       record { gates = f.0; value = f.1 }
   fit AddConst keys A v stated os width domain names built alike sound some most same stand =
       let u = one_word plan n AddConst v stated os width sound sound.arity same in
-      let f = alone (AddConstA v.x.gate v.constant) v.width Word stand refl (word_gate plan n (AddConstA v.x.gate v.constant) v.width same (subst (λ (k : ℕ). v.constant < 2 ^ k) (sound.bare refl ∙ sym same) sound.constant) (value_operand u, tt) (value_width u, tt) tt) in
+      let f =
+      of_word (AddConstA v.x.gate v.constant) v.width stand refl same
+      (subst (λ (k : ℕ). v.constant < 2 ^ k) (sound.bare refl ∙ sym same) sound.constant)
+      (value_operand u, tt) (value_width u, tt) tt in
       record { gates = f.0; value = f.1 }
   fit MulConst keys A v stated os width domain names built alike sound some most same stand =
       let u = one_word plan n MulConst v stated os width sound sound.arity same in
-      let f = alone (MulConstA v.x.gate v.constant) v.width Word stand refl (word_gate plan n (MulConstA v.x.gate v.constant) v.width same (subst (λ (k : ℕ). v.constant < 2 ^ k) (sound.bare refl ∙ sym same) sound.constant) (value_operand u, tt) (value_width u, tt) tt) in
+      let f =
+      of_word (MulConstA v.x.gate v.constant) v.width stand refl same
+      (subst (λ (k : ℕ). v.constant < 2 ^ k) (sound.bare refl ∙ sym same) sound.constant)
+      (value_operand u, tt) (value_width u, tt) tt in
       record { gates = f.0; value = f.1 }
   fit Xor false B v stated os width domain names built alike sound some most same stand =
       let u = two_vectors plan n Xor v stated os width sound sound.arity sound.wide same in
-      let f = alone (XorB v.x.gate v.y.gate) v.width Vector stand refl (bits_gate plan n (XorB v.x.gate v.y.gate) v.width (λ e. cc) some most (pow_pos v.width) (value_operand u.0, (value_operand u.1, tt)) (value_width u.0, (value_width u.1, tt)) tt) in
+      let f =
+      of_vector (XorB v.x.gate v.y.gate) v.width stand refl some most (pow_pos v.width)
+      (value_operand u.0, (value_operand u.1, tt)) (value_width u.0, (value_width u.1, tt)) tt in
       record { gates = f.0; value = f.1 }
   fit And false B v stated os width domain names built alike sound some most same stand =
       let u = two_vectors plan n And v stated os width sound sound.arity sound.wide same in
-      let f = alone (AndB v.x.gate v.y.gate) v.width Vector stand refl (bits_gate plan n (AndB v.x.gate v.y.gate) v.width (λ e. cc) some most (pow_pos v.width) (value_operand u.0, (value_operand u.1, tt)) (value_width u.0, (value_width u.1, tt)) tt) in
+      let f =
+      of_vector (AndB v.x.gate v.y.gate) v.width stand refl some most (pow_pos v.width)
+      (value_operand u.0, (value_operand u.1, tt)) (value_width u.0, (value_width u.1, tt)) tt in
       record { gates = f.0; value = f.1 }
   fit Not false B v stated os width domain names built alike sound some most same stand =
       let u = one_vector plan n Not v stated os width sound sound.arity sound.wide same in
-      let f = alone (XorConstB v.x.gate (2 ^ v.width - 1)) v.width Vector stand refl (bits_gate plan n (XorConstB v.x.gate (2 ^ v.width - 1)) v.width (λ e. cc) some most (pow-sub-lt v.width (omega arith)) (value_operand u, tt) (value_width u, tt) tt) in
+      let f =
+      of_vector (XorConstB v.x.gate (2 ^ v.width - 1)) v.width stand refl some most
+      (pow-sub-lt v.width (omega arith))
+      (value_operand u, tt) (value_width u, tt) tt in
       record { gates = f.0; value = f.1 }
   fit Slice false B v stated os width domain names built alike sound some most same stand =
       let u = cut_vector plan n Slice v stated os width sound sound.arity sound.wide same in
-      let f = alone (SliceB v.x.gate v.place) v.width Vector stand refl (bits_gate plan n (SliceB v.x.gate v.place) v.width (λ e. cc) some most (pow_pos v.width) (value_operand u.1, tt) ((let low = value_width u.1 in let within = u.2 in omega arith), tt) tt) in
+      let f =
+      of_vector (SliceB v.x.gate v.place) v.width stand refl some most (pow_pos v.width)
+      (value_operand u.1, tt) ((let low = value_width u.1 in let within = u.2 in omega arith), tt) tt in
       record { gates = f.0; value = f.1 }
   fit Join false B v stated os width domain names built alike sound some most same stand =
       let u = joined_vectors plan n Join v stated os width sound sound.arity sound.wide same in
-      let f = alone (JoinB v.x.gate v.y.gate) v.width Vector stand refl (bits_gate plan n (JoinB v.x.gate v.y.gate) v.width (λ e. cc) some most (pow_pos v.width) (value_operand u.2, (value_operand u.3, tt)) (let low = value_width u.2 in let high = value_width u.3 in let both = u.4 in omega arith) tt) in
+      let f =
+      of_vector (JoinB v.x.gate v.y.gate) v.width stand refl some most (pow_pos v.width)
+      (value_operand u.2, (value_operand u.3, tt))
+      (let low = value_width u.2 in let high = value_width u.3 in let both = u.4 in omega arith) tt in
       record { gates = f.0; value = f.1 }
   fit _ _ _ v stated os width domain names built alike sound some most same stand = cc
 
   -- the gate of an output may stand behind the value that it tells
-  pub output_fits : (keys : Bool) (v : Source) (w : WireType) → is_operation_built Output keys ≡ true → keys ≡ is_keys (Some w) →
-      IsValue plan.gates n (given_of (sharing_of w)) v.x.gate (width_of w) → IsWide w → IfSome (party_told v.to) (λ party. party < plan.parties) →
+  pub output_fits : (keys : Bool) (v : Source) (w : WireType) → is_operation_built Output keys ≡ true →
+      keys ≡ is_keys (Some w) →
+      IsValue plan.gates n (given_of (sharing_of w)) v.x.gate (width_of w) → IsWide w →
+      IfSome (party_told v.to) (λ party. party < plan.parties) →
       v.is_word ≡ is_word (Some w) → v.width ≡ width_of w → AllGates plan n (block_of Output keys v n).gates
   output_fits true v w built alike is wide to word same = cc
   output_fits false v w built alike is wide to word same =
       all_one plan n (gate_of (cond v.is_word (OutA v.x.gate v.to) (OutB v.x.gate v.to)) v.width)
-      (subst (λ (b : Bool). IsGate plan n (gate_of (cond b (OutA v.x.gate v.to) (OutB v.x.gate v.to)) v.width)) (sym word) (by_sharing w alike is wide same))
+      (subst (λ (b : Bool). IsGate plan n
+      (gate_of (cond b (OutA v.x.gate v.to) (OutB v.x.gate v.to)) v.width)) (sym word)
+      (by_sharing w alike is wide same))
     where
-      by_sharing : (w : WireType) → false ≡ is_keys (Some w) → IsValue plan.gates n (given_of (sharing_of w)) v.x.gate (width_of w) → IsWide w →
-          v.width ≡ width_of w → IsGate plan n (gate_of (cond (is_word (Some w)) (OutA v.x.gate v.to) (OutB v.x.gate v.to)) v.width)
+      by_sharing : (w : WireType) → false ≡ is_keys (Some w) →
+          IsValue plan.gates n (given_of (sharing_of w)) v.x.gate (width_of w) → IsWide w →
+          v.width ≡ width_of w →
+          IsGate plan n
+          (gate_of (cond (is_word (Some w)) (OutA v.x.gate v.to) (OutB v.x.gate v.to)) v.width)
       by_sharing wire.A alike is wide same =
-          word_gate plan n (OutA v.x.gate v.to) v.width same (pow_pos v.width) (value_operand is, tt) (value_width is ∙ sym same, tt) to
+          word_gate plan n (OutA v.x.gate v.to) v.width same (pow_pos v.width) (value_operand is, tt)
+          (value_width is ∙ sym same, tt) to
       by_sharing (wire.B width) alike is wide same =
           let some = wide.0 in
           let most = wide.1 in
-          bits_gate plan n (OutB v.x.gate v.to) v.width (λ e. cc) (omega (arith, some, same)) (omega (arith, most, same)) (pow_pos v.width)
+          bits_gate plan n (OutB v.x.gate v.to) v.width (λ e. cc) (omega (arith, some, same))
+          (omega (arith, most, same)) (pow_pos v.width)
           (value_operand is, tt) (value_width is ∙ sym same, tt) to
       by_sharing (wire.Y width) alike is wide same = cc

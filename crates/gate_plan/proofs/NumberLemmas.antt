@@ -1,23 +1,25 @@
 -- The numbers of a valid plan's gates, and what its gates tell, part by part.
-use Rattle.std.proofs.Common.{ℕ, zero, suc, ◌≡◌, ◌<◌, ◌≤◌, ◌+◌, ◌%◌, ◌^◌, List, [], ◌∷◌, ◌++◌, length, map, Option, Some, None, inl, inr, refl, sym, ◌∙◌, ap, ap₂, subst, arith, append_assoc}
-use Rattle.std.specs.Prelude.{slice_get, slice_index, option_map}
+use Rattle.std.proofs.Common.{ℕ, zero, suc, ◌≡◌, ◌<◌, ◌≤◌, ◌+◌, ◌%◌, ◌^◌, List, [], ◌∷◌, ◌++◌, length, Option, Some, None, inl, inr, refl, sym, ◌∙◌, ap, ap₂, subst, arith, append_assoc}
+use Rattle.std.specs.Prelude.{slice_get, slice_index}
 use Rattle.std.specs.List.{AllByRecursion}
 use Rattle.std.proofs.lemmas.Bool.{cases_lt}
 use Rattle.std.proofs.lemmas.List.{length-append}
 use Rattle.std.proofs.lemmas.Option.{slice_get-map}
-use Rattle.mot_base.proofs.Lists.{mapped_some, index_at, inside_of, before_at, last_at, nothing_behind, all_at}
+use Rattle.mot_base.proofs.Lists.{mapped_some, index_at, inside_of, before_at, last_at, all_at}
 use Rattle.plan_gates.specs.Gate.{Gate, Use, uses, operands, receiver_of, low_width}
 use Rattle.plan_gates.specs.Plan.{Gates, IsOperand, IsPlan}
-use Rattle.plan_gates.specs.Plain.{Outside, operand_number, number_of, gate_number, number_at, plain_before, plain_numbers, GateTold, told_entry, told_by}
+use Rattle.plan_gates.specs.Plain.{Outside, operand_number, number_of, number_at, plain_before, plain_numbers, GateTold, told_entry, told_by}
 use Rattle.gate_plan.specs.Blocks.{AreNumbers}
 
 -- ---- numbers by their places
 
-pub length_plain : (gates : List Gate) (outside : Outside) (n : ℕ) → length (plain_before gates outside n) ≡ n
+pub length_plain : (gates : List Gate) (outside : Outside) (n : ℕ) →
+    length (plain_before gates outside n) ≡ n
 length_plain gates outside zero = refl
 length_plain gates outside (suc n) =
     let before = length_plain gates outside n in
-    length-append (plain_before gates outside n) (number_at gates outside (plain_before gates outside n) (slice_get gates n) ∷ [])
+    length-append (plain_before gates outside n)
+    (number_at gates outside (plain_before gates outside n) (slice_get gates n) ∷ [])
     ∙ omega arith
 
 module _ (gates : List Gate) (outside : Outside) where
@@ -39,27 +41,33 @@ module _ (gates : List Gate) (outside : Outside) where
       ]
 
   -- a number is the same behind more gates
-  plain_same : (n i x : ℕ) → x < i → i ≤ n → slice_index (plain_before gates outside i) x ≡ slice_index (plain_before gates outside n) x
+  plain_same : (n i x : ℕ) → x < i → i ≤ n →
+      slice_index (plain_before gates outside i) x ≡ slice_index (plain_before gates outside n) x
   plain_same n i x h le =
       index_at (plain_before gates outside i) x (own x) (plain_at i x h)
       ∙ sym (index_at (plain_before gates outside n) x (own x) (plain_at n x (omega arith)))
 
 -- the operands of a gate of a valid plan stand before it
-operand_before : (plan : Gates) → IsPlan plan → (g : ℕ) (gate : Gate) → slice_get plan.gates g ≡ Some gate → (k x : ℕ) →
+operand_before : (plan : Gates) → IsPlan plan → (g : ℕ) (gate : Gate) → slice_get plan.gates g ≡ Some gate →
+    (k x : ℕ) →
     slice_get (operands gate.kind) k ≡ Some x → x < g
 operand_before plan valid g gate there k x e =
     let used = mapped_some (λ (u : Use). u.gate) (slice_get (uses gate.kind) k) x
     (sym (slice_get-map (λ (u : Use). u.gate) (uses gate.kind) k) ∙ e) in
-    let is : IsOperand plan.gates g used.0 = all_at (IsOperand plan.gates g) (uses gate.kind) k used.0 (valid.each g gate there).uses used.1 in
+    let is : IsOperand plan.gates g used.0 = all_at (IsOperand plan.gates g) (uses gate.kind) k used.0
+    (valid.each g gate there).uses used.1 in
     let below = is.0 in
     let same = used.2 in
     omega (arith, below, same)
 
-pub plans_have_numbers : (plan : Gates) (outside : Outside) → IsPlan plan → AreNumbers plan.gates outside (plain_numbers plan outside)
+pub plans_have_numbers : (plan : Gates) (outside : Outside) → IsPlan plan → AreNumbers plan.gates outside
+    (plain_numbers plan outside)
 plans_have_numbers plan outside valid g gate there =
     plain_at plan.gates outside (length plan.gates) g within
     ∙ (ap (λ o. Some (number_at plan.gates outside (plain_before plan.gates outside g) o)) there
-    ∙ ap₂ (λ (x y : ℕ). Some (number_of gate.kind (record { outside = outside; x = x; y = y; low = low_width plan.gates gate.kind }) % 2 ^ gate.width))
+    ∙ ap₂ (λ (x y : ℕ). Some
+    (number_of gate.kind
+    (record { outside = outside; x = x; y = y; low = low_width plan.gates gate.kind }) % 2 ^ gate.width))
     (operand 0 (slice_get (operands gate.kind) 0) refl) (operand 1 (slice_get (operands gate.kind) 1) refl))
   where
     within : g < length plan.gates
@@ -69,7 +77,8 @@ plans_have_numbers plan outside valid g gate there =
         operand_number (plain_before plan.gates outside g) o ≡ operand_number (plain_numbers plan outside) o
     operand k None e = refl
     operand k (Some x) e =
-        plain_same plan.gates outside (length plan.gates) g x (operand_before plan valid g gate there k x e) (omega (arith, within))
+        plain_same plan.gates outside (length plan.gates) g x (operand_before plan valid g gate there k x e)
+        (omega (arith, within))
 
 -- ---- what gates tell
 
@@ -84,9 +93,11 @@ told_places : (gates : List Gate) (before numbers : List ℕ) → length gates �
 told_places [] before numbers h = refl
 told_places (gate ∷ gates) before [] h = absurd (omega (arith, h))
 told_places (gate ∷ gates) before (n ∷ numbers) h =
-    let here : slice_index (before ++ n ∷ numbers) (length before) ≡ n = index_at (before ++ n ∷ numbers) (length before) n (front before) in
+    let here : slice_index (before ++ n ∷ numbers) (length before) ≡ n =
+    index_at (before ++ n ∷ numbers) (length before) n (front before) in
     let more : length (before ++ n ∷ []) ≡ length before + 1 = length-append before (n ∷ []) in
-    ap₂ (λ (k : ℕ) (rest : List GateTold). told_entry gate.width k (receiver_of gate.kind) ++ rest) (sym here)
+    ap₂ (λ (k : ℕ) (rest : List GateTold). told_entry gate.width k (receiver_of gate.kind) ++ rest)
+    (sym here)
     (told_places gates (before ++ n ∷ []) numbers (omega (arith, h))
     ∙ ap₂ (λ (m : ℕ) (all : List ℕ). told_from gates m all) more (append_assoc before (n ∷ []) numbers))
   where
@@ -94,7 +105,8 @@ told_places (gate ∷ gates) before (n ∷ numbers) h =
     front [] = refl
     front (x ∷ xs) = front xs
 
-pub told_by_place : (gates : List Gate) (numbers : List ℕ) → length gates ≡ length numbers → told_by gates numbers ≡ told_from gates 0 numbers
+pub told_by_place : (gates : List Gate) (numbers : List ℕ) → length gates ≡ length numbers →
+    told_by gates numbers ≡ told_from gates 0 numbers
 told_by_place gates numbers h = told_places gates [] numbers h
 
 pub told_append : (xs ys : List Gate) (n : ℕ) (numbers : List ℕ) →
@@ -104,14 +116,16 @@ told_append (x ∷ xs) ys n numbers =
     let entry = told_entry x.width (slice_index numbers n) (receiver_of x.kind) in
     let place : n + 1 + length xs ≡ n + suc (length xs) = omega arith in
     ap (λ (rest : List GateTold). entry ++ rest)
-    (told_append xs ys (n + 1) numbers ∙ ap (λ k. told_from xs (n + 1) numbers ++ told_from ys k numbers) place)
+    (told_append xs ys (n + 1) numbers
+    ∙ ap (λ k. told_from xs (n + 1) numbers ++ told_from ys k numbers) place)
     ∙ sym (append_assoc entry (told_from xs (n + 1) numbers) (told_from ys (n + suc (length xs)) numbers))
 
 -- a gate that is no output
 abbrev pub IsSilent : Gate → Type 0
 IsSilent gate = receiver_of gate.kind ≡ None
 
-pub told_nothing : (gates : List Gate) (n : ℕ) (numbers : List ℕ) → AllByRecursion IsSilent gates → told_from gates n numbers ≡ []
+pub told_nothing : (gates : List Gate) (n : ℕ) (numbers : List ℕ) → AllByRecursion IsSilent gates →
+    told_from gates n numbers ≡ []
 told_nothing [] n numbers silent = refl
 told_nothing (gate ∷ gates) n numbers silent =
     ap (λ o. told_entry gate.width (slice_index numbers n) o ++ told_from gates (n + 1) numbers) silent.0

@@ -1,10 +1,9 @@
 -- The gates of a finished plan, part by part.
-use Rattle.std.proofs.Common.{ℕ, zero, suc, ◌≡◌, ◌<◌, ◌≤◌, ◌+◌, ◌-◌, ◌^◌, List, [], ◌∷◌, ◌++◌, length, map, Option, Some, None, inl, inr, refl, sym, ◌∙◌, ap, subst, arith}
+use Rattle.std.proofs.Common.{ℕ, zero, suc, ◌≡◌, ◌<◌, ◌≤◌, ◌+◌, ◌-◌, ◌^◌, List, [], ◌∷◌, ◌++◌, length, map, Some, inl, inr, refl, sym, ◌∙◌, ap, subst, arith}
 use Rattle.std.specs.Prelude.{slice_get, IfSome, option_map}
 use Rattle.std.specs.Option.{unwrap_or}
 use Rattle.std.specs.List.{AllByRecursion}
 use Rattle.std.proofs.lemmas.Bool.{cases_lt}
-use Rattle.std.proofs.lemmas.List.{length-append}
 use Rattle.mot_base.specs.Limits.{most_width}
 use Rattle.mot_base.proofs.Lists.{same_some, inside_of, before_at, behind_at}
 use Rattle.plan_gates.specs.Gate.{Kind, Gate, Given, Word, gate_of, gives, uses, operands, constant_of, party_of, width_at}
@@ -14,29 +13,34 @@ use Rattle.gate_plan.specs.Blocks.{Stand}
 -- ---- lists that grow at their ends
 
 -- what stands in a list stays where it is
-pub grown : {X : Type 0} (list : ℕ → List X) → ((n : ℕ) → (more : List X) × (list (suc n) ≡ list n ++ more)) →
+pub grown : {X : Type 0} (list : ℕ → List X) →
+    ((n : ℕ) → (more : List X) × (list (suc n) ≡ list n ++ more)) →
     (n m i : ℕ) (x : X) → n ≤ m → slice_get (list n) i ≡ Some x → slice_get (list m) i ≡ Some x
-grown list next n zero i x h e = let same : n ≡ 0 = omega arith in subst (λ k. slice_get (list k) i ≡ Some x) same e
+grown list next n zero i x h e = let same : n ≡ 0 = omega arith in
+    subst (λ k. slice_get (list k) i ≡ Some x) same e
 grown list next n (suc m) i x h e = elim (cases_lt n (suc m)) as (λ _. slice_get (list (suc m)) i ≡ Some x) [
   | inl small ↦
       (let before = grown list next n m i x (omega (arith, small)) e in
       let within = inside_of (list m) i x before in
       ap (λ xs. slice_get xs i) (next m).1 ∙ (before_at (list m) (next m).0 i within ∙ before))
-  | inr large ↦ (let same : n ≡ suc m = omega (arith, h, large) in subst (λ k. slice_get (list k) i ≡ Some x) same e)
+  | inr large ↦
+      (let same : n ≡ suc m = omega (arith, h, large) in subst (λ k. slice_get (list k) i ≡ Some x) same e)
 ]
 
 -- some gates stand behind others
 pub stand_behind : (xs ys : List Gate) → Stand (xs ++ ys) (length xs) ys
 stand_behind xs ys i gate e = behind_at xs ys i ∙ e
 
-pub stand_grown : (gates more : List Gate) (n : ℕ) (block : List Gate) → Stand gates n block → Stand (gates ++ more) n block
+pub stand_grown : (gates more : List Gate) (n : ℕ) (block : List Gate) → Stand gates n block →
+    Stand (gates ++ more) n block
 stand_grown gates more n block stand i gate e =
     let there = stand i gate e in
     let within = inside_of gates (n + i) gate there in
     before_at gates more (n + i) within ∙ there
 
 -- the first of some gates
-pub first_of : (gates : List Gate) (n : ℕ) (gate : Gate) (rest : List Gate) → Stand gates n (gate ∷ rest) → slice_get gates n ≡ Some gate
+pub first_of : (gates : List Gate) (n : ℕ) (gate : Gate) (rest : List Gate) → Stand gates n (gate ∷ rest) →
+    slice_get gates n ≡ Some gate
 first_of gates n gate rest stand =
     let place : n + 0 ≡ n = omega arith in
     subst (λ k. slice_get gates k ≡ Some gate) place (stand 0 gate refl)
@@ -51,7 +55,8 @@ pub record IsValue (gates : List Gate) (bound : ℕ) (given : Given) (x width : 
   pub given_is : gives gate.kind ≡ given
   pub width_is : gate.width ≡ width
 
-pub later : {gates : List Gate} {bound : ℕ} {given : Given} {x width : ℕ} (more : ℕ) → bound ≤ more → IsValue gates bound given x width →
+pub later : {gates : List Gate} {bound : ℕ} {given : Given} {x width : ℕ} (more : ℕ) → bound ≤ more →
+    IsValue gates bound given x width →
     IsValue gates more given x width
 later more h is = record {
   below = (let below = is.below in omega (arith, h));
@@ -62,22 +67,26 @@ later more h is = record {
 }
 
 -- the gate at a place is as wide as its value
-pub value_width : {gates : List Gate} {bound : ℕ} {given : Given} {x width : ℕ} → IsValue gates bound given x width → width_at gates x ≡ width
+pub value_width : {gates : List Gate} {bound : ℕ} {given : Given} {x width : ℕ} →
+    IsValue gates bound given x width → width_at gates x ≡ width
 value_width is = ap (λ o. unwrap_or (option_map (λ (g : Gate). g.width) o) 0) is.there ∙ is.width_is
 
 -- it may be an operand of the gate there
-pub value_operand : {gates : List Gate} {bound : ℕ} {given : Given} {x width : ℕ} → IsValue gates bound given x width →
+pub value_operand : {gates : List Gate} {bound : ℕ} {given : Given} {x width : ℕ} →
+    IsValue gates bound given x width →
     IsOperand gates bound (record { given = given; gate = x })
 value_operand is = (is.below, is.gate, is.there, is.given_is)
 
 -- the value of a gate that stands
-pub own_value : (gates : List Gate) (n : ℕ) (gate : Gate) (given : Given) → slice_get gates n ≡ Some gate → gives gate.kind ≡ given →
+pub own_value : (gates : List Gate) (n : ℕ) (gate : Gate) (given : Given) → slice_get gates n ≡ Some gate →
+    gives gate.kind ≡ given →
     IsValue gates (n + 1) given n gate.width
 own_value gates n gate given there is =
     record { below = omega arith; gate = gate; there = there; given_is = is; width_is = refl }
 
 -- a gate may stand where its width, constant, operands and party are in order
-pub bits_gate : (plan : Gates) (g : ℕ) (kind : Kind) (w : ℕ) → (gives kind ≡ Word → w ≡ most_width) → 1 ≤ w → w ≤ most_width →
+pub bits_gate : (plan : Gates) (g : ℕ) (kind : Kind) (w : ℕ) →
+    (gives kind ≡ Word → w ≡ most_width) → 1 ≤ w → w ≤ most_width →
     constant_of kind < 2 ^ w → AllByRecursion (IsOperand plan.gates g) (uses kind) →
     FitWidths kind w (map (width_at plan.gates) (operands kind)) →
     IfSome (party_of kind) (λ party. party < plan.parties) → IsGate plan g (gate_of kind w)
@@ -93,7 +102,8 @@ bits_gate plan g kind w word some most small before fit party = record {
 
 -- and so may one of 64 bits
 pub word_gate : (plan : Gates) (g : ℕ) (kind : Kind) (w : ℕ) → w ≡ most_width → constant_of kind < 2 ^ w →
-    AllByRecursion (IsOperand plan.gates g) (uses kind) → FitWidths kind w (map (width_at plan.gates) (operands kind)) →
+    AllByRecursion (IsOperand plan.gates g) (uses kind) →
+    FitWidths kind w (map (width_at plan.gates) (operands kind)) →
     IfSome (party_of kind) (λ party. party < plan.parties) → IsGate plan g (gate_of kind w)
 word_gate plan g kind w whole small before fit party = record {
   some_width = omega (arith, whole);
@@ -121,7 +131,8 @@ all_one plan n gate is = record { each = at }
         subst (λ k. IsGate plan k other) place (subst (IsGate plan n) (same_some gate other e) is)
     at (suc i) other e = cc
 
-pub all_both : (plan : Gates) (n : ℕ) (xs : List Gate) (m : ℕ) (ys : List Gate) → m ≡ n + length xs → AllGates plan n xs → AllGates plan m ys →
+pub all_both : (plan : Gates) (n : ℕ) (xs : List Gate) (m : ℕ) (ys : List Gate) → m ≡ n + length xs →
+    AllGates plan n xs → AllGates plan m ys →
     AllGates plan n (xs ++ ys)
 all_both plan n xs m ys place first second = record { each = at }
   where
@@ -132,6 +143,7 @@ all_both plan n xs m ys place first second = record { each = at }
           (let k : ℕ = i - length xs in
           let here : length xs + k ≡ i = omega (arith, large) in
           let there : m + k ≡ n + i = omega (arith, large, place) in
-          let is : slice_get ys k ≡ Some gate = sym (behind_at xs ys k) ∙ (ap (slice_get (xs ++ ys)) here ∙ e) in
+          let is : slice_get ys k ≡ Some gate =
+          sym (behind_at xs ys k) ∙ (ap (slice_get (xs ++ ys)) here ∙ e) in
           subst (λ j. IsGate plan j gate) there (second.each k gate is))
     ]

@@ -1,5 +1,5 @@
 -- The gates that the code makes of a statement are the statement's.
-use Rattle.std.proofs.Common.{ℕ, suc, ◌≡◌, ◌<◌, ◌≤◌, ◌+◌, true, false, List, [], ◌∷◌, ◌++◌, length, take, Option, Some, refl, sym, ◌∙◌, ap, ap₂, subst, arith}
+use Rattle.std.proofs.Common.{ℕ, suc, ◌≡◌, ◌≤◌, ◌+◌, true, false, List, [], ◌∷◌, ◌++◌, length, take, Option, Some, refl, sym, ◌∙◌, ap, ap₂, subst, arith}
 use Rattle.std.specs.Prelude.{slice_get, option_map, Result, Ok, Err, IfOk}
 use Rattle.mot_base.specs.Limits.{most_gates}
 use Rattle.mot_base.proofs.Lists.{same_some, inside_of}
@@ -24,11 +24,13 @@ use Rattle.gate_plan.proofs.PlanLemmas.{start, source, block, next, next_start, 
 use Rattle.gate_plan.proofs.ValidLemmas.{told}
 
 -- what follows from what an `Ok` has
-pub if_ok : {X E : Type 0} (r : Result X E) (P Q : X → Type 0) → ((value : X) → P value → Q value) → IfOk r P → IfOk r Q
+pub if_ok : {X E : Type 0} (r : Result X E) (P Q : X → Type 0) →
+    ((value : X) → P value → Q value) → IfOk r P → IfOk r Q
 if_ok (Ok value) P Q f h = f value h
 if_ok (Err e) P Q f h = tt
 
-module _ (c : Circuit) (circuit : IsCircuit c) (built : all_built c ≡ true) (n : ℕ) (s : Statement) (there : slice_get c.statements n ≡ Some s) where
+module _ (c : Circuit) (circuit : IsCircuit c) (built : all_built c ≡ true) (n : ℕ) (s : Statement)
+    (there : slice_get c.statements n ≡ Some s) where
   abbrev all : List Statement
   all = c.statements
 
@@ -49,40 +51,57 @@ module _ (c : Circuit) (circuit : IsCircuit c) (built : all_built c ≡ true) (n
           (t.operand.wire, t.handled)
 
   -- a constant of bits has the width of its line
-  pub constant_width : (w : WireType) → Some w ≡ wire_handled all s → s.shape.operation ≡ ConstBits → s.shape.width ≡ width_of w
+  pub constant_width : (w : WireType) → Some w ≡ wire_handled all s → s.shape.operation ≡ ConstBits →
+      s.shape.width ≡ width_of w
   constant_width w wired e =
-      let P : Operation → Type 0 = λ op. width_by (widths_of op) s.shape.width s.shape.place row.operands ≡ Some row.width in
+      let P : Operation → Type 0 = λ op. width_by (widths_of op) s.shape.width s.shape.place row.operands
+      ≡ Some row.width in
       let stated : s.shape.width ≡ row.width = same_some _ _ (subst P e row.wide) in
       let named : states is_name_slot s.shape.operation ≡ true = rw e refl in
-      let own : s.wire ≡ Some (wire_type (gives s.shape.operation row.sharing) row.width) = row.wire ∙ rw named refl in
-      let same : wire_type (gives s.shape.operation row.sharing) row.width ≡ w = same_some _ _ (sym (handled_own c n s _ circuit there own).0 ∙ sym wired) in
-      (stated ∙ (of_bits row.sharing (subst (λ op. is_in (domain_of op) row.sharing ≡ true) e row.domain) ∙ ap width_of (ap (λ op. wire_type (gives op row.sharing) row.width) (sym e) ∙ same)))
+      let own : s.wire ≡ Some (wire_type (gives s.shape.operation row.sharing) row.width) =
+      row.wire ∙ rw named refl in
+      let same : wire_type (gives s.shape.operation row.sharing) row.width ≡ w =
+      same_some _ _ (sym (handled_own c n s _ circuit there own).0 ∙ sym wired) in
+      (stated ∙
+      (of_bits row.sharing (subst (λ op. is_in (domain_of op) row.sharing ≡ true) e row.domain)
+      ∙ ap width_of (ap (λ op. wire_type (gives op row.sharing) row.width) (sym e) ∙ same)))
     where
-      of_bits : (given : Sharing) → is_in (domain_of ConstBits) given ≡ true → row.width ≡ width_of (wire_type (gives ConstBits given) row.width)
+      of_bits : (given : Sharing) → is_in (domain_of ConstBits) given ≡ true →
+          row.width ≡ width_of (wire_type (gives ConstBits given) row.width)
       of_bits A e = cc
       of_bits B e = refl
       of_bits Y e = refl
 
-  -- the block that the code makes, from the shape, the wires of the operands, the number of inputs before it, and the value handled
+  -- the block that the code makes, from the shape, the wires of the operands, the number of inputs before
+  -- it, and the value handled
   pub code_block : (shape : Shape) (x y : Wire) (k : ℕ) (w : WireType) (draft : Gates) →
       s.shape ≡ shape → x ≡ operand_wire (lowered_to c n).wires (slice_get shape.operands 0) →
-      y ≡ operand_wire (lowered_to c n).wires (slice_get shape.operands 1) → k ≡ length (inputs_of (take n all)) →
+      y ≡ operand_wire (lowered_to c n).wires (slice_get shape.operands 1) →
+      k ≡ length (inputs_of (take n all)) →
       Some w ≡ wire_handled all s → draft ≡ draft_to c n →
       block_of shape.operation false (source_from shape x y k (Some w)) (length draft.gates) ≡ block c n s
   code_block shape x y k w draft same first second inputs wired before =
       let wires = (lowered_to c n).wires in
       let a = operand_wire wires (slice_get shape.operands 0) in
       let b = operand_wire wires (slice_get shape.operands 1) in
-      ap₂ (λ (p q : Wire). block_of shape.operation false (source_from shape p q k (Some w)) (length draft.gates)) first second
-      ∙ (ap₂ (λ (m : ℕ) (o : Option WireType). block_of shape.operation false (source_from shape a b m o) (length draft.gates)) inputs wired
-      ∙ (ap (λ (p : Gates). block_of shape.operation false (source_from shape a b (length (inputs_of (take n all))) (wire_handled all s)) (length p.gates)) before
+      ap₂ (λ (p q : Wire). block_of shape.operation false (source_from shape p q k (Some w))
+      (length draft.gates)) first second
+      ∙ (ap₂ (λ (m : ℕ) (o : Option WireType). block_of shape.operation false (source_from shape a b m o)
+      (length draft.gates)) inputs wired
+      ∙ (ap (λ (p : Gates). block_of shape.operation false
+      (source_from shape a b (length (inputs_of (take n all))) (wire_handled all s)) (length p.gates))
+      before
       ∙ (ap (λ (sh : Shape). block_of sh.operation false
-      (source_from sh (operand_wire wires (slice_get sh.operands 0)) (operand_wire wires (slice_get sh.operands 1)) (length (inputs_of (take n all))) (wire_handled all s))
+      (source_from sh (operand_wire wires (slice_get sh.operands 0))
+      (operand_wire wires (slice_get sh.operands 1)) (length (inputs_of (take n all)))
+      (wire_handled all s))
       (start c n)) (sym same)
-      ∙ ap (λ keys. block_of s.shape.operation keys (source c n s) (start c n)) (sym (handles_no_keys all s (built_at c n s built there))))))
+      ∙ ap (λ keys. block_of s.shape.operation keys (source c n s) (start c n))
+      (sym (handles_no_keys all s (built_at c n s built there))))))
 
   -- and room for it
-  pub room : (draft : Gates) (made : Block) → all_gates c ≤ most_gates → draft ≡ draft_to c n → made ≡ block c n s → length draft.gates + length made.gates ≤ most_gates
+  pub room : (draft : Gates) (made : Block) → all_gates c ≤ most_gates → draft ≡ draft_to c n →
+      made ≡ block c n s → length draft.gates + length made.gates ≤ most_gates
   room draft made few before is =
       let within = inside_of all n s there in
       let first = ap (λ (p : Gates). length p.gates) before in
@@ -93,15 +112,18 @@ module _ (c : Circuit) (circuit : IsCircuit c) (built : all_built c ≡ true) (n
       omega (arith, few, first, own, more, all_to, rise)
 
   -- the draft behind it, and the wires
-  pub draft_next : (draft after : Gates) (made : Block) → draft ≡ draft_to c n → made ≡ block c n s → after ≡ with_gates draft made.gates →
+  pub draft_next : (draft after : Gates) (made : Block) → draft ≡ draft_to c n → made ≡ block c n s →
+      after ≡ with_gates draft made.gates →
       after ≡ draft_to c (n + 1)
   draft_next draft after made before is more =
       let later : suc n ≡ n + 1 = omega arith in
       more
       ∙ (ap₂ (λ (p : Gates) (b : Block). with_gates p b.gates) before is
-      ∙ (ap (λ (l : Lowered). record { parties = c.parties; gates = l.gates }) (sym (next c n s there)) ∙ ap (draft_to c) later))
+      ∙ (ap (λ (l : Lowered). record { parties = c.parties; gates = l.gates }) (sym (next c n s there))
+      ∙ ap (draft_to c) later))
 
-  pub wires_next : (wires : List Wire) (wire : Wire) (made : Block) → wires ≡ (lowered_to c n).wires → made ≡ block c n s → wire ≡ made.wire →
+  pub wires_next : (wires : List Wire) (wire : Wire) (made : Block) → wires ≡ (lowered_to c n).wires →
+      made ≡ block c n s → wire ≡ made.wire →
       wires ++ wire ∷ [] ≡ (lowered_to c (n + 1)).wires
   wires_next wires wire made before is own =
       let later : suc n ≡ n + 1 = omega arith in
@@ -109,6 +131,8 @@ module _ (c : Circuit) (circuit : IsCircuit c) (built : all_built c ≡ true) (n
       ∙ (ap (λ (l : Lowered). l.wires) (sym (next c n s there)) ∙ ap (λ k. (lowered_to c k).wires) later)
 
 -- what is told of the statement at a place, if it is there
-pub shape_here : (statements : List Statement) (at : ℕ) (s : Statement) (shape : Shape) → slice_get statements at ≡ Some s →
+pub shape_here : (statements : List Statement) (at : ℕ) (s : Statement) (shape : Shape) →
+    slice_get statements at ≡ Some s →
     option_map (λ s. s.shape) (slice_get statements at) ≡ Some shape → s.shape ≡ shape
-shape_here statements at s shape there e = same_some s.shape shape (sym (ap (option_map (λ (t : Statement). t.shape)) there) ∙ e)
+shape_here statements at s shape there e =
+    same_some s.shape shape (sym (ap (option_map (λ (t : Statement). t.shape)) there) ∙ e)

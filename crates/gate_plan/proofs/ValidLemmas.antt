@@ -1,16 +1,15 @@
 -- The plan of a circuit whose statements are built is valid.
-use Rattle.std.proofs.Common.{ℕ, zero, suc, ◌≡◌, ◌<◌, ◌≤◌, ◌+◌, true, false, cond, List, [], ◌∷◌, length, map, take, Option, Some, None, inl, inr, refl, sym, ◌∙◌, ap, subst, arith}
-use Rattle.std.specs.Prelude.{slice_get, slice_index, IfSome, option_map}
+use Rattle.std.proofs.Common.{ℕ, zero, suc, ◌≡◌, ◌<◌, ◌≤◌, true, cond, List, length, take, Option, Some, None, inl, inr, refl, sym, ◌∙◌, ap, subst, arith}
+use Rattle.std.specs.Prelude.{slice_get, IfSome, option_map}
 use Rattle.std.specs.Option.{unwrap_or}
 use Rattle.std.proofs.lemmas.Bool.{cases_lt}
 use Rattle.std.proofs.lemmas.Option.{slice_get-map}
 use Rattle.mot_base.specs.Limits.{most_gates}
-use Rattle.mot_base.proofs.Lists.{same_some, inside_of, some_at, index_at, taken_at}
+use Rattle.mot_base.proofs.Lists.{same_some, some_at, index_at, taken_at}
 use Rattle.share_types.specs.declared.sharing.Sharing.{Sharing}
 use Rattle.share_types.specs.declared.sharing.Sharing.TheVariants.{A, B, Y}
 use Rattle.share_types.specs.declared.sharing.WireType.{WireType}
 use Rattle.share_types.specs.Wires.{sharing_of, wire_type, width_of, party_told}
-use Rattle.mixed_language.specs.declared.language.Operation.{Operation}
 use Rattle.mixed_language.specs.declared.language.Operation.TheVariants.{Output}
 use Rattle.mixed_language.specs.declared.operand.Operand.{Operand}
 use Rattle.mixed_language.specs.Language.{gives, states, is_name_slot, arity_of}
@@ -28,7 +27,8 @@ use Rattle.gate_plan.proofs.FitLemmas.{given_of, shared_same, Sound, fit, output
 use Rattle.gate_plan.proofs.BuiltLemmas.{built_at, handled_own, statement_of}
 use Rattle.gate_plan.proofs.PlanLemmas.{start, source, block, next, stands, wire_in, next_start, count}
 
-party_some : (parties : ℕ) (o : Option ℕ) → 0 < parties → IfSome o (λ party. party < parties) → unwrap_or o 0 < parties
+party_some : (parties : ℕ) (o : Option ℕ) → 0 < parties → IfSome o (λ party. party < parties) →
+    unwrap_or o 0 < parties
 party_some parties None h f = h
 party_some parties (Some party) h f = f
 
@@ -58,9 +58,12 @@ module _ (c : Circuit) (circuit : IsCircuit c) (built : all_built c ≡ true) wh
     pub row : IsStatement c.parties (take n all) s
     row = circuit.each n s there
 
-    pub operand_place : (i : ℕ) (o : Operand) → slice_get row.operands i ≡ Some o → slice_get s.shape.operands i ≡ Some o.at
+    pub operand_place : (i : ℕ) (o : Operand) → slice_get row.operands i ≡ Some o →
+        slice_get s.shape.operands i ≡ Some o.at
     operand_place i o e =
-        ap (λ xs. slice_get xs i) row.places ∙ (slice_get-map (λ (x : Operand). x.at) row.operands i ∙ ap (option_map (λ (x : Operand). x.at)) e)
+        ap (λ xs. slice_get xs i) row.places
+        ∙ (slice_get-map (λ (x : Operand). x.at) row.operands i
+        ∙ ap (option_map (λ (x : Operand). x.at)) e)
 
     -- an operand is the value of an earlier statement, and has its wire
     pub record IsEarlier (i : ℕ) (o : Operand) : Type 0 where
@@ -68,7 +71,8 @@ module _ (c : Circuit) (circuit : IsCircuit c) (built : all_built c ≡ true) wh
       pub below : o.at < n
       pub there_at : slice_get all o.at ≡ Some statement
       pub own : statement.wire ≡ Some o.wire
-      pub wired : operand_wire (lowered_to c n).wires (slice_get s.shape.operands i) ≡ (block c o.at statement).wire
+      pub wired : operand_wire (lowered_to c n).wires (slice_get s.shape.operands i) ≡
+          (block c o.at statement).wire
 
     pub earlier : (i : ℕ) (o : Operand) → slice_get row.operands i ≡ Some o → IsEarlier i o
     earlier i o e =
@@ -84,22 +88,27 @@ module _ (c : Circuit) (circuit : IsCircuit c) (built : all_built c ≡ true) wh
         }
 
     operand_value : AreValues n → (i : ℕ) (o : Operand) → slice_get row.operands i ≡ Some o →
-        IsValue plan.gates (start c n) (given_of row.sharing) (operand_wire (lowered_to c n).wires (slice_get s.shape.operands i)).gate (width_of o.wire)
+        IsValue plan.gates (start c n) (given_of row.sharing)
+        (operand_wire (lowered_to c n).wires (slice_get s.shape.operands i)).gate (width_of o.wire)
     operand_value values i o e =
         let t = earlier i o e in
         let is = values.at o.at t.statement o.wire t.below t.there_at t.own in
-        subst (λ (a : Wire). IsValue plan.gates (start c n) (given_of row.sharing) a.gate (width_of o.wire)) (sym t.wired)
-        (subst (λ (given : Sharing). IsValue plan.gates (start c n) (given_of given) (block c o.at t.statement).wire.gate (width_of o.wire))
+        subst (λ (a : Wire). IsValue plan.gates (start c n) (given_of row.sharing) a.gate (width_of o.wire))
+        (sym t.wired)
+        (subst (λ (given : Sharing). IsValue plan.gates (start c n) (given_of given)
+        (block c o.at t.statement).wire.gate (width_of o.wire))
         (shared_same row.sharing o.wire (row.uses.shared i o e)) is)
 
-    sound : AreValues n → Sound plan (start c n) s.shape.operation row.sharing (source c n s) s.shape.width row.operands row.width
+    sound : AreValues n → Sound plan (start c n) s.shape.operation row.sharing
+        (source c n s) s.shape.width row.operands row.width
     sound values = record {
       arity = row.arity;
       wide = row.wide;
       shared = row.uses.shared;
       x = λ o e. operand_value values 0 o e;
       y = λ o e. operand_value values 1 o e;
-      party = party_some c.parties s.shape.party (let some = circuit.some_parties in omega arith) row.numbers.party;
+      party = party_some c.parties s.shape.party
+          (let some = circuit.some_parties in omega arith) row.numbers.party;
       to = told_some c.parties s.shape.party row.numbers.party;
       constant = row.numbers.fits;
       bare = row.numbers.no_width;
@@ -122,14 +131,19 @@ module _ (c : Circuit) (circuit : IsCircuit c) (built : all_built c ≡ true) wh
           operand = t.x;
           first = t.first;
           place = place;
-          handled = ap (λ op. handled_by op (wire_at all (told_value s)) s.wire) e ∙ (ap (wire_at all) place ∙ rw is.there_at is.own);
-          unnamed = row.wire ∙ ap (λ b. cond b (Some (wire_type (gives s.shape.operation row.sharing) row.width)) None) (ap (states is_name_slot) e);
+          handled = ap (λ op. handled_by op (wire_at all (told_value s)) s.wire) e
+              ∙ (ap (wire_at all) place ∙ rw is.there_at is.own);
+          unnamed =
+              row.wire ∙ ap
+              (λ b. cond b (Some (wire_type (gives s.shape.operation row.sharing) row.width)) None)
+              (ap (states is_name_slot) e);
         }
 
     -- the gates of the statement may stand, and give its value, if it has one
     record IsNext : Type 0 where
       gates : AllGates plan (start c n) (block c n s).gates
-      value : (w : WireType) → s.wire ≡ Some w → IsValue plan.gates (start c (suc n)) (given_of (sharing_of w)) (block c n s).wire.gate (width_of w)
+      value : (w : WireType) → s.wire ≡ Some w → IsValue plan.gates (start c (suc n))
+          (given_of (sharing_of w)) (block c n s).wire.gate (width_of w)
 
     is_next : AreValues n → Named s.shape.operation → IsNext
     is_next values (Names e untold) =
@@ -141,16 +155,25 @@ module _ (c : Circuit) (circuit : IsCircuit c) (built : all_built c ≡ true) wh
         let some = wide.0 in
         let most = wide.1 in
         let same : (source c n s).width ≡ width_of w = ap width_handled handled in
-        let f = fit plan (start c n) op (is_keys (wire_handled all s)) row.sharing (source c n s) s.shape.width row.operands row.width row.domain e
-        (built_at c n s built there) (ap is_keys handled) (sound values) (omega (arith, some, same)) (omega (arith, most, same)) same
+        let f = fit plan (start c n) op (is_keys (wire_handled all s)) row.sharing
+        (source c n s) s.shape.width row.operands row.width row.domain e
+        (built_at c n s built there) (ap is_keys handled) (sound values) (omega (arith, some, same))
+        (omega (arith, most, same)) same
         (stands c n s there) in
         let a = (block c n s).wire.gate in
-        let at_end = subst (λ k. IsValue plan.gates k (given_of (gives op row.sharing)) a (source c n s).width) (sym (next_start c n s there)) f.value in
-        let as_wide = subst (IsValue plan.gates (start c (suc n)) (given_of (gives op row.sharing)) a) same at_end in
-        let as_given = subst (λ (g : Sharing). IsValue plan.gates (start c (suc n)) (given_of g) a (width_of w)) (sym (own_sharing (gives op row.sharing) row.width)) as_wide in
+        let at_end =
+        subst (λ k. IsValue plan.gates k (given_of (gives op row.sharing)) a (source c n s).width)
+        (sym (next_start c n s there)) f.value in
+        let as_wide =
+        subst (IsValue plan.gates (start c (suc n)) (given_of (gives op row.sharing)) a) same at_end in
+        let as_given =
+        subst (λ (g : Sharing). IsValue plan.gates (start c (suc n)) (given_of g) a (width_of w))
+        (sym (own_sharing (gives op row.sharing) row.width)) as_wide in
         record {
           gates = f.gates;
-          value = λ u f. subst (λ (v : WireType). IsValue plan.gates (start c (suc n)) (given_of (sharing_of v)) a (width_of v)) (same_some w u (sym own ∙ f)) as_given;
+          value = λ u f. subst
+              (λ (v : WireType). IsValue plan.gates (start c (suc n)) (given_of (sharing_of v)) a
+              (width_of v)) (same_some w u (sym own ∙ f)) as_given;
         }
     is_next values (Tells e) =
         let t = told e in
@@ -160,11 +183,17 @@ module _ (c : Circuit) (circuit : IsCircuit c) (built : all_built c ≡ true) wh
         let value = operand_value values 0 t.operand t.first in
         let shared = shared_same row.sharing w (row.uses.shared 0 t.operand t.first) in
         let keys = is_keys (wire_handled all s) in
-        let known = subst (λ (g : Sharing). IsValue plan.gates (start c n) (given_of g) (source c n s).x.gate (width_of w)) (sym shared) value in
+        let known =
+        subst (λ (g : Sharing). IsValue plan.gates (start c n) (given_of g) (source c n s).x.gate
+        (width_of w)) (sym shared) value in
         record {
-          gates = subst (λ op. AllGates plan (start c n) (block_of op keys (source c n s) (start c n)).gates) (sym e)
-              (output_fits plan (start c n) keys (source c n s) w (subst (λ op. is_operation_built op keys ≡ true) e (built_at c n s built there)) (ap is_keys t.handled) known wide
-              (told_some c.parties s.shape.party row.numbers.party) (ap is_word t.handled) (ap width_handled t.handled));
+          gates = subst (λ op. AllGates plan (start c n) (block_of op keys (source c n s) (start c n)).gates)
+              (sym e)
+              (output_fits plan (start c n) keys (source c n s) w
+              (subst (λ op. is_operation_built op keys ≡ true) e (built_at c n s built there))
+              (ap is_keys t.handled) known wide
+              (told_some c.parties s.shape.party row.numbers.party) (ap is_word t.handled)
+              (ap width_handled t.handled));
           value = λ u own. let contrary = sym own ∙ t.unnamed in cc;
         }
 
@@ -172,25 +201,36 @@ module _ (c : Circuit) (circuit : IsCircuit c) (built : all_built c ≡ true) wh
     pub values : AreValues n
     pub gates : AllGates plan 0 (lowered_to c n).gates
 
-  values_next : (n : ℕ) (s : Statement) (there : slice_get all n ≡ Some s) → AreValues n → IsNext n s there → AreValues (suc n)
+  values_next : (n : ℕ) (s : Statement) (there : slice_get all n ≡ Some s) → AreValues n → IsNext n s there →
+      AreValues (suc n)
   values_next n s there before step = record { at = at }
     where
       at : (x : ℕ) (t : Statement) (w : WireType) → x < suc n → slice_get all x ≡ Some t → t.wire ≡ Some w →
           IsValue plan.gates (start c (suc n)) (given_of (sharing_of w)) (block c x t).wire.gate (width_of w)
-      at x t w below here own = elim (cases_lt x n) as (λ _. IsValue plan.gates (start c (suc n)) (given_of (sharing_of w)) (block c x t).wire.gate (width_of w)) [
-        | inl small ↦
-            (let more = next_start c n s there in
-            later (start c (suc n)) (omega (arith, more)) (before.at x t w small here own))
-        | inr large ↦
-            (let place : n ≡ x = omega (arith, below, large) in
-            let same : s ≡ t = same_some s t (sym there ∙ (ap (slice_get all) place ∙ here)) in
-            let is = step.value w (ap (λ (u : Statement). u.wire) same ∙ own) in
-            subst (λ k. IsValue plan.gates (start c (suc n)) (given_of (sharing_of w)) (block c k t).wire.gate (width_of w)) place
-            (subst (λ (u : Statement). IsValue plan.gates (start c (suc n)) (given_of (sharing_of w)) (block c n u).wire.gate (width_of w)) same is))
-      ]
+      at x t w below here own =
+          elim (cases_lt x n) as
+          (λ _. IsValue plan.gates (start c (suc n)) (given_of (sharing_of w)) (block c x t).wire.gate
+          (width_of w)) [
+            | inl small ↦
+                (let more = next_start c n s there in
+                later (start c (suc n)) (omega (arith, more)) (before.at x t w small here own))
+            | inr large ↦
+                (let place : n ≡ x = omega (arith, below, large) in
+                let same : s ≡ t = same_some s t (sym there ∙ (ap (slice_get all) place ∙ here)) in
+                let is = step.value w (ap (λ (u : Statement). u.wire) same ∙ own) in
+                subst (λ k. IsValue plan.gates (start c (suc n)) (given_of (sharing_of w))
+                (block c k t).wire.gate (width_of w)) place
+                (subst (λ (u : Statement). IsValue plan.gates (start c (suc n)) (given_of (sharing_of w))
+                (block c n u).wire.gate (width_of w)) same is))
+          ]
 
   pub valid_to : (n : ℕ) → n ≤ length all → IsValidTo n
-  valid_to zero h = record { values = record { at = λ x t w below here own. absurd (omega (arith, below)) }; gates = all_none plan 0 }
+  valid_to zero h =
+      record {
+        values = record { at = λ x t w below here own. absurd (omega (arith, below)) };
+        gates =
+            all_none plan 0;
+      }
   valid_to (suc n) h =
       let here = some_at all n (omega (arith, h)) in
       let before = valid_to n (omega (arith, h)) in
@@ -198,7 +238,8 @@ module _ (c : Circuit) (circuit : IsCircuit c) (built : all_built c ≡ true) wh
       record {
         values = values_next n here.0 here.1 before.values step;
         gates = subst (λ (l : Lowered). AllGates plan 0 l.gates) (sym (next c n here.0 here.1))
-            (all_both plan 0 (lowered_to c n).gates (start c n) (block c n here.0).gates (omega arith) before.gates step.gates);
+            (all_both plan 0 (lowered_to c n).gates (start c n) (block c n here.0).gates
+            (omega arith) before.gates step.gates);
       }
 
   pub lowered_is_plan : all_gates c ≤ most_gates → IsPlan (lowered c)
@@ -207,5 +248,6 @@ module _ (c : Circuit) (circuit : IsCircuit c) (built : all_built c ≡ true) wh
     most_parties = circuit.most_parties;
     few = (let all = count c (length c.statements) built (omega arith) in omega (arith, all, few));
     each = λ g gate there.
-        subst (λ k. IsGate (lowered c) k gate) (omega arith) ((valid_to (length c.statements) (omega arith)).gates.each g gate there);
+        subst (λ k. IsGate (lowered c) k gate) (omega arith)
+        ((valid_to (length c.statements) (omega arith)).gates.each g gate there);
   }

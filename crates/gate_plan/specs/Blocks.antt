@@ -1,5 +1,5 @@
 -- The gates of a part of a circuit, and the wires of the values that they give.
-use Rattle.std.specs.Prelude.{ℕ, ◌≡◌, ◌+◌, List, [], ◌∷◌, ◌++◌, slice_get, Option, Some, None}
+use Rattle.std.specs.Prelude.{ℕ, ◌≡◌, ◌+◌, List, [], ◌∷◌, ◌++◌, slice_get, Some}
 use Rattle.std.specs.Option.{unwrap_or}
 use Rattle.plan_gates.specs.Gate.{Kind, Gate, gate_of}
 use Rattle.plan_gates.specs.Plain.{Outside, gate_number}

@@ -12,11 +12,12 @@ use Rattle.gate_plan.specs.Lowering.{wires_of}
 abbrev pub unnamed : Told → GateTold
 unnamed told = record { to = told.to; bits = told.bits }
 
--- whatever comes from outside: the number of each statement's value is that of its wire's gate, and the output gates tell
--- what the circuit tells, in the order of its outputs
+-- whatever comes from outside: the number of each statement's value is that of its wire's gate, and the
+-- output gates tell what the circuit tells, in the order of its outputs
 pub record KeepsValues (c : Circuit) (plan : Gates) (outside : Outside) (values : List ℕ) : Type 0 where
   pub values_kept : (at : ℕ) (value : ℕ) → slice_get values at ≡ Some value →
-      (wire : Wire) × (slice_get (wires_of c) at ≡ Some wire) × (slice_get (plain_numbers plan outside) wire.gate ≡ Some value)
+      (wire : Wire) × (slice_get (wires_of c) at ≡ Some wire)
+      × (slice_get (plain_numbers plan outside) wire.gate ≡ Some value)
   pub told_kept : told_by plan.gates (plain_numbers plan outside) ≡ map unnamed (told_of c values)
 
 abbrev pub KeepsEvaluation : Circuit → Gates → Type 0

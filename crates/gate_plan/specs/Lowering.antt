@@ -34,9 +34,9 @@ is_keys _ = false
 abbrev pub adder_gates : ℕ
 adder_gates = 1073
 
--- how many gates an operation has among so many parties, where its value or what it tells is shared as keys or not: one
--- for each part of a pair of mask and masked bits, three for an AND of keys, a mask and an entry for each party whose
--- share becomes a summand, and then what joins two summands
+-- how many gates an operation has among so many parties, where its value or what it tells is shared as keys
+-- or not: one for each part of a pair of mask and masked bits, three for an AND of keys, a mask and an
+-- entry for each party whose share becomes a summand, and then what joins two summands
 abbrev pub gates_of : ℕ → Operation → Bool → ℕ
 gates_of parties A2Y keys = 2 * parties + adder_gates * (parties - 1)
 gates_of parties A2B keys = 2 * parties + adder_gates * (parties - 1) + 1
@@ -86,9 +86,9 @@ all_built c = list_all (is_built c.statements) c.statements
 
 -- ---- the gates of a statement
 
--- what the gates of a statement are made of: the wires of its operands, the number of its input, the party whose input it
--- is, who is told, whether a word is told, the width of its value or of what it tells, and the place and the constant
--- that its line states
+-- what the gates of a statement are made of: the wires of its operands, the number of its input, the party
+-- whose input it is, who is told, whether a word is told, the width of its value or of what it tells, and
+-- the place and the constant that its line states
 pub record Source : Type 0 where
   pub x : Wire
   pub y : Wire
@@ -100,8 +100,8 @@ pub record Source : Type 0 where
   pub place : ℕ
   pub constant : ℕ
 
--- the gates of an operation, of which the first has the number n, where its value or what it tells is shared as keys or
--- not, and the wire of that value. What is not built has none
+-- the gates of an operation, of which the first has the number n, where its value or what it tells is
+-- shared as keys or not, and the wire of that value. What is not built has none
 abbrev pub block_of : Operation → Bool → Source → ℕ → Block
 block_of InputWord keys v n = one n v.width (InA v.party v.k)
 block_of InputBits false v n = one n v.width (InB v.party v.k 0)
@@ -133,8 +133,8 @@ abbrev pub operand_wire : List Wire → Option ℕ → Wire
 operand_wire wires None = single 0
 operand_wire wires (Some at) = wire_among wires at
 
--- what the gates of a shape are made of, from the wires of its operands, the number of its input, and how its value is
--- shared, or the value that it tells
+-- what the gates of a shape are made of, from the wires of its operands, the number of its input, and how
+-- its value is shared, or the value that it tells
 abbrev pub source_from : Shape → Wire → Wire → ℕ → Option WireType → Source
 source_from shape x y k handled = record {
   x = x;
@@ -164,8 +164,8 @@ block_at c at before (Some s) =
     block_of s.shape.operation (is_keys (wire_handled c.statements s)) (source_of c at before.wires s)
     (length before.gates)
 
--- the gates of the statements before a place, one statement after another, with a wire for each statement: that of its
--- value, and for an output that of what it tells
+-- the gates of the statements before a place, one statement after another, with a wire for each statement:
+-- that of its value, and for an output that of what it tells
 abbrev pub lowered_to : Circuit → ℕ → Lowered
 lowered_to c zero = record { gates = []; wires = [] }
 lowered_to c (suc n) = with_block (lowered_to c n) (block_at c n (lowered_to c n) (slice_get c.statements n))

@@ -14,9 +14,9 @@ use plan_gates::Plan;
 use share_types::Sharing;
 use std::alloc::Global;
 
-/// The gates of a circuit in Bristol Fashion. Input value `k` belongs to party `k` mod the number of parties, and
-/// each output wire is told to all. `NotBuilt` comes exactly where the wires are to be shared as keys, and
-/// `TooManyGates` exactly where they are to be shared by XOR and there are too many.
+/// The gates of a circuit in Bristol Fashion. Input value `k` belongs to party `k` mod the number of
+/// parties, and each output wire is told to all. `NotBuilt` comes exactly where the wires are to be shared
+/// as keys, and `TooManyGates` exactly where they are to be shared by XOR and there are too many.
 pub fn lower_bristol(
     alloc: Global,
     circuit: &Bristol,
@@ -27,7 +27,8 @@ pub fn lower_bristol(
     requires most { parties ≤ most_parties }
     requires sharing { sharing ≢ A }
     ensures plan { IfOk result (λ plan. plan ≡ bristol_lowered parties circuit.now) }
-    ensures count { IfOk result (λ plan. length plan.gates ≡ all_bristol_gates (are_keys sharing) circuit.now) }
+    ensures count { IfOk result (λ plan.
+        length plan.gates ≡ all_bristol_gates (are_keys sharing) circuit.now) }
     ensures keeps { IfOk result (λ plan. KeepsBristol circuit.now plan) }
     ensures not_built { IsErrOf result PlanError.NotBuilt ↔ (sharing ≡ Y) }
     ensures too_many { (gates : ℕ) → IsErrOf result (PlanError.TooManyGates gates) ↔
@@ -45,7 +46,8 @@ pub fn lower_bristol(
     Ok(plan)
 }
 
-/// How many gates a circuit in Bristol Fashion has, whose wires are shared by XOR or as keys. It takes no memory.
+/// How many gates a circuit in Bristol Fashion has, whose wires are shared by XOR or as keys. It takes no
+/// memory.
 pub fn lowered_bristol_gates(circuit: &Bristol, sharing: Sharing) -> u64
     requires { sharing ≢ A }
     ensures { result ≡ all_bristol_gates (are_keys sharing) circuit.now }

@@ -186,7 +186,8 @@ fn bit(word: u32) -> Bits
     }
 }
 
-/// Adds so many ANDs, of which the one at place `i` takes input `i` and that which stands so many places behind it.
+/// Adds so many ANDs, of which the one at place `i` takes input `i` and that which stands so many places
+/// behind it.
 fn push_ands(draft: &mut Draft, wires: &[Wire], ins: &[u32], count: usize) -> Result<(), NoMemory>
     requires room { length draft.old.gates + count ≤ most_gates }
     ensures { OnOk result (draft.new ≡ with_gates draft.old (each count (λ i. bit_gate (AndB
@@ -194,15 +195,27 @@ fn push_ands(draft: &mut Draft, wires: &[Wire], ins: &[u32], count: usize) -> Re
         (wire_among wires.now (slice_index ins.now (count + i))).gate)))) }
 {
     for i in 0..count {
-        let x = input_wire(wires, ins, i).gate;
-        let y = input_wire(wires, ins, count + i).gate;
-        push_bit(draft, GateKind::AndB { x, y })?;
+        push_bit(draft, and_at(wires, ins, count, i))?;
     }
     Ok(())
 }
 
-/// Gives the outputs of a gate of a kind their wires, where `x` is the wire of its first input and `first` the number of
-/// its first gate.
+/// The AND at a place of so many.
+fn and_at(wires: &[Wire], ins: &[u32], count: usize, i: usize) -> GateKind
+    requires place { i < count }
+    requires few { count ≤ most_gates }
+    ensures kind { kind_of result ≡ AndB
+        (wire_among wires.now (slice_index ins.now i)).gate
+        (wire_among wires.now (slice_index ins.now (count + i))).gate }
+    ensures stated { stated_width result ≡ None }
+{
+    let x = input_wire(wires, ins, i).gate;
+    let y = input_wire(wires, ins, count + i).gate;
+    GateKind::AndB { x, y }
+}
+
+/// Gives the outputs of a gate of a kind their wires, where `x` is the wire of its first input and `first`
+/// the number of its first gate.
 fn rewire(wires: &mut [Wire], outs: &[u32], kind: BristolKind, x: Wire, first: u32)
     requires range { list_all (λ w. nat_lt w (length wires.old)) outs.now ≡ true }
     requires few { first + length outs.now < 2 ^ 32 }

@@ -18,15 +18,16 @@ use std::alloc::Global;
 /// The gates of an adder of two words that are shared as keys.
 const ADDER_GATES: u64 = 1073;
 
-/// The gates of a circuit. `NotBuilt` comes exactly where some statement takes or gives a value that is shared as keys,
-/// or converts one, and `TooManyGates` exactly where the circuit has too many.
+/// The gates of a circuit. `NotBuilt` comes exactly where some statement takes or gives a value that is
+/// shared as keys, or converts one, and `TooManyGates` exactly where the circuit has too many.
 pub fn lower_mixed(alloc: Global, circuit: &Mixed) -> Result<Plan, PlanError>
     ensures plan { IfOk result (λ plan. plan ≡ lowered circuit.now) }
     ensures count { IfOk result (λ plan. length plan.gates ≡ all_gates circuit.now) }
     ensures keeps { IfOk result (λ plan. KeepsEvaluation circuit.now plan) }
     ensures not_built { IsErrOf result PlanError.NotBuilt ↔ (all_built circuit.now ≡ false) }
     ensures too_many { (gates : ℕ) → IsErrOf result (PlanError.TooManyGates gates) ↔
-        ((all_built circuit.now ≡ true) × (most_gates < all_gates circuit.now) × (gates ≡ all_gates circuit.now)) }
+        ((all_built circuit.now ≡ true) × (most_gates < all_gates circuit.now)
+        × (gates ≡ all_gates circuit.now)) }
 {
     if !are_built(circuit) {
         return Err(PlanError::NotBuilt);
@@ -64,8 +65,8 @@ fn gates_in(circuit: &Mixed, at: u32) -> u64
     )
 }
 
-/// How many gates a statement of that form has among so many parties, where its value or what it tells is shared as
-/// keys or not.
+/// How many gates a statement of that form has among so many parties, where its value or what it tells is
+/// shared as keys or not.
 fn gates_of(parties: u8, form: Form, keys: bool) -> u64
     requires some { least_parties ≤ parties }
     requires most { parties ≤ most_parties }
@@ -107,7 +108,8 @@ fn are_built(circuit: &Mixed) -> bool
 /// Whether a statement neither takes nor gives a value that is shared as keys, and converts none.
 fn is_built(circuit: &Mixed, at: u32) -> bool
     requires { at < length circuit.now.statements }
-    ensures { IfSome (slice_get circuit.now.statements at) (λ s. result ≡ is_built circuit.now.statements s) }
+    ensures { IfSome (slice_get circuit.now.statements at) (λ s.
+        result ≡ is_built circuit.now.statements s) }
 {
     match circuit.form(at) {
         Form::A2Y { .. }

@@ -23,7 +23,8 @@ use share_types::{Bits, WireType};
 /// How the value of a statement is shared, or the value that it tells.
 pub fn wire_handled(circuit: &Mixed, at: u32) -> Option<WireType>
     requires { at < length circuit.now.statements }
-    ensures value { IfSome (slice_get circuit.now.statements at) (λ s. result ≡ wire_handled circuit.now.statements s) }
+    ensures value { IfSome (slice_get circuit.now.statements at) (λ s.
+        result ≡ wire_handled circuit.now.statements s) }
     ensures wide { IfSome result (λ wire. IsWide wire) }
 {
     circuit.wire(place_handled(circuit.form(at), at))
@@ -32,7 +33,8 @@ pub fn wire_handled(circuit: &Mixed, at: u32) -> Option<WireType>
 /// The place of the value that an output tells, and the statement's own place for all else.
 fn place_handled(form: Form, at: u32) -> u32
     requires { AreEarlier at (shape_of form).operands }
-    ensures place { result ≡ handled_by (shape_of form).operation (slice_index (shape_of form).operands 0) at }
+    ensures place { result
+        ≡ handled_by (shape_of form).operation (slice_index (shape_of form).operands 0) at }
     ensures earlier { result ≤ at }
 {
     match form {
@@ -99,8 +101,9 @@ pub fn operand_wire(wires: &[Wire], place: Option<u32>) -> Wire
     }
 }
 
-/// Adds the gates of a statement that is built, and gives the wire of its value: `k` is the number of its input, `wire`
-/// is how its value is shared, or the value that it tells, and `x` and `y` are the wires of its operands.
+/// Adds the gates of a statement that is built, and gives the wire of its value: `k` is the number of its
+/// input, `wire` is how its value is shared, or the value that it tells, and `x` and `y` are the wires of
+/// its operands.
 pub fn push_block(
     draft: &mut Draft,
     form: Form,

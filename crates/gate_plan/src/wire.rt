@@ -9,7 +9,8 @@ ghost use Rattle.gate_plan.specs.Blocks.{single, wire_among, one};
 use mot_base::NoMemory;
 use plan_gates::{Draft, GateKind};
 
-/// The two gates of a value: a mask and the masked bits where it is shared as keys, and else its one gate twice.
+/// The two gates of a value: a mask and the masked bits where it is shared as keys, and else its one gate
+/// twice.
 #[derive(Clone, Copy, Debug)]
 pub struct Wire {
     pub mask: u32,

@@ -31,11 +31,15 @@ of-requires c =
     let draft : c.loop-at.draft ≡ wired_draft c.args.parties circuit (length circuit.gates) =
     c.loop-at.invariant.0 ∙ ap (wired_draft c.args.parties circuit) all in
     let wires : c.deref.result.now ≡ (wired_before c.args.parties circuit (length circuit.gates)).wires =
-    c.deref.ensures.value ∙ (c.loop-at.invariant.1 ∙ ap (λ k. (wired_before c.args.parties circuit k).wires) all) in
+    c.deref.ensures.value
+    ∙ (c.loop-at.invariant.1 ∙ ap (λ k. (wired_before c.args.parties circuit k).wires) all) in
     let whole : c.push_outputs.new.draft ≡ bristol_lowered c.args.parties circuit =
     c.in_ok-push_outputs.ensures
-    ∙ ap₂ (λ (p : Gates) (ws : List Wire). with_gates p (output_gates ws (output_wires circuit))) draft wires in
-    subst IsPlan (sym whole) (bristol_is_plan c.args.parties circuit c.len-at-end.ensures.circuit c.requires.some c.requires.most c.requires.few)
+    ∙ ap₂ (λ (p : Gates) (ws : List Wire). with_gates p (output_gates ws (output_wires circuit))) draft wires
+    in
+    subst IsPlan (sym whole)
+    (bristol_is_plan c.args.parties circuit c.len-at-end.ensures.circuit c.requires.some c.requires.most
+    c.requires.few)
 
 pub returns-clause-plan : goal.returns-clause-plan
 returns-clause-plan c =
@@ -47,11 +51,14 @@ returns-clause-plan c =
     let draft : c.loop-at.draft ≡ wired_draft c.args.parties circuit (length circuit.gates) =
     c.loop-at.invariant.0 ∙ ap (wired_draft c.args.parties circuit) all in
     let wires : c.deref.result.now ≡ (wired_before c.args.parties circuit (length circuit.gates)).wires =
-    c.deref.ensures.value ∙ (c.loop-at.invariant.1 ∙ ap (λ k. (wired_before c.args.parties circuit k).wires) all) in
+    c.deref.ensures.value
+    ∙ (c.loop-at.invariant.1 ∙ ap (λ k. (wired_before c.args.parties circuit k).wires) all) in
     let whole : c.push_outputs.new.draft ≡ bristol_lowered c.args.parties circuit =
     c.in_ok-push_outputs.ensures
-    ∙ ap₂ (λ (p : Gates) (ws : List Wire). with_gates p (output_gates ws (output_wires circuit))) draft wires in
-    if_ok c.of.result (λ plan. plan ≡ c.push_outputs.new.draft) (λ plan. plan ≡ bristol_lowered c.args.parties circuit)
+    ∙ ap₂ (λ (p : Gates) (ws : List Wire). with_gates p (output_gates ws (output_wires circuit))) draft wires
+    in
+    if_ok c.of.result (λ plan. plan ≡ c.push_outputs.new.draft)
+    (λ plan. plan ≡ bristol_lowered c.args.parties circuit)
     (λ plan is. is ∙ whole) c.of.ensures
 
 pub returns-clause-count : goal.returns-clause-count
@@ -64,10 +71,12 @@ returns-clause-count c =
     let draft : c.loop-at.draft ≡ wired_draft c.args.parties circuit (length circuit.gates) =
     c.loop-at.invariant.0 ∙ ap (wired_draft c.args.parties circuit) all in
     let wires : c.deref.result.now ≡ (wired_before c.args.parties circuit (length circuit.gates)).wires =
-    c.deref.ensures.value ∙ (c.loop-at.invariant.1 ∙ ap (λ k. (wired_before c.args.parties circuit k).wires) all) in
+    c.deref.ensures.value
+    ∙ (c.loop-at.invariant.1 ∙ ap (λ k. (wired_before c.args.parties circuit k).wires) all) in
     let whole : c.push_outputs.new.draft ≡ bristol_lowered c.args.parties circuit =
     c.in_ok-push_outputs.ensures
-    ∙ ap₂ (λ (p : Gates) (ws : List Wire). with_gates p (output_gates ws (output_wires circuit))) draft wires in
+    ∙ ap₂ (λ (p : Gates) (ws : List Wire). with_gates p (output_gates ws (output_wires circuit))) draft wires
+    in
     let Q : Gates → Type 0 = λ plan. length plan.gates ≡ all_bristol_gates false circuit in
     if_ok c.of.result (λ plan. plan ≡ c.push_outputs.new.draft) Q
     (λ plan is. subst Q (sym (is ∙ whole)) (length_lowered c.args.parties circuit)) c.of.ensures
@@ -82,11 +91,15 @@ returns-clause-keeps c =
     let draft : c.loop-at.draft ≡ wired_draft c.args.parties circuit (length circuit.gates) =
     c.loop-at.invariant.0 ∙ ap (wired_draft c.args.parties circuit) all in
     let wires : c.deref.result.now ≡ (wired_before c.args.parties circuit (length circuit.gates)).wires =
-    c.deref.ensures.value ∙ (c.loop-at.invariant.1 ∙ ap (λ k. (wired_before c.args.parties circuit k).wires) all) in
+    c.deref.ensures.value
+    ∙ (c.loop-at.invariant.1 ∙ ap (λ k. (wired_before c.args.parties circuit k).wires) all) in
     let whole : c.push_outputs.new.draft ≡ bristol_lowered c.args.parties circuit =
     c.in_ok-push_outputs.ensures
-    ∙ ap₂ (λ (p : Gates) (ws : List Wire). with_gates p (output_gates ws (output_wires circuit))) draft wires in
+    ∙ ap₂ (λ (p : Gates) (ws : List Wire). with_gates p (output_gates ws (output_wires circuit))) draft wires
+    in
     let Q : Gates → Type 0 = λ plan. KeepsBristol circuit plan in
     if_ok c.of.result (λ plan. plan ≡ c.push_outputs.new.draft) Q
-    (λ plan is. subst Q (sym (is ∙ whole)) (keeps_bristol c.args.parties circuit c.len-at-end.ensures.circuit c.requires.some c.requires.most c.requires.few))
+    (λ plan is. subst Q (sym (is ∙ whole))
+    (keeps_bristol c.args.parties circuit c.len-at-end.ensures.circuit c.requires.some c.requires.most
+    c.requires.few))
     c.of.ensures

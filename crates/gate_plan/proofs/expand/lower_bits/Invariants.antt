@@ -4,4 +4,5 @@ use Rattle.gate_plan.proofs.expand.lower_bits.Given as goal
 
 abbrev pub invariant-loop-at : goal.invariant-loop-at
 invariant-loop-at l =
-    (l.draft ≡ wired_draft l.parties l.circuit l.at) × (l.wires.items ≡ (wired_before l.parties l.circuit l.at).wires)
+    (l.draft ≡ wired_draft l.parties l.circuit l.at) ×
+    (l.wires.items ≡ (wired_before l.parties l.circuit l.at).wires)

@@ -18,7 +18,8 @@ push_bit-requires-clause-room c =
     let test = c.loop-wire-test.true in
     let start = c.loop-wire.auto.wire in
     let few = c.requires.circuit.built.few_outputs in
-    output_room c.args.draft.now c.loop-wire.draft c.args.wires.now (circuit.wires - sum circuit.outputs) c.loop-wire.wire (sum circuit.outputs)
+    output_room c.args.draft.now c.loop-wire.draft c.args.wires.now
+    (circuit.wires - sum circuit.outputs) c.loop-wire.wire (sum circuit.outputs)
     (omega arith) (omega arith) c.requires.room c.loop-wire.invariant
 
 pub loop-wire-preserved : goal.loop-wire-preserved
@@ -29,6 +30,9 @@ loop-wire-preserved c =
     let outputs = c.output_wires.ensures in
     let start = c.loop-wire.auto.wire in
     let few = c.requires.circuit.built.few_outputs in
-    output_next c.args.draft.now c.loop-wire.draft c.push_bit.new.draft c.args.wires.now (circuit.wires - sum circuit.outputs) c.loop-wire.wire
+    output_next c.args.draft.now c.loop-wire.draft c.push_bit.new.draft c.args.wires.now
+    (circuit.wires - sum circuit.outputs) c.loop-wire.wire
     (omega arith) c.loop-wire.invariant
-    (c.in_ok-push_bit.ensures ∙ ap (λ (a : Wire). with_gates c.loop-wire.draft (bit_gate (OutB a.gate All) ∷ [])) c.wire_among-x.ensures)
+    (c.in_ok-push_bit.ensures
+    ∙ ap (λ (a : Wire). with_gates c.loop-wire.draft (bit_gate (OutB a.gate All) ∷ []))
+    c.wire_among-x.ensures)

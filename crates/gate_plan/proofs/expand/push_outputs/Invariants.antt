@@ -9,4 +9,5 @@ abbrev pub invariant-loop-wire : goal.invariant-loop-wire
 invariant-loop-wire l =
     l.draft
     ≡ with_gates l.fn.draft (output_gates l.wires
-    (range_with_len (l.circuit.wires - sum l.circuit.outputs) (l.wire - (l.circuit.wires - sum l.circuit.outputs))))
+    (range_with_len (l.circuit.wires - sum l.circuit.outputs)
+    (l.wire - (l.circuit.wires - sum l.circuit.outputs))))

@@ -1,4 +1,4 @@
-use Rattle.std.proofs.Common.{ℕ, ◌≡◌, ◌+◌, List, length, take, get_or, set, sym, ◌∙◌, ap, ap₂, arith}
+use Rattle.std.proofs.Common.{ℕ, List, get_or, set, sym, ◌∙◌, ap, ap₂, arith}
 use Rattle.std.proofs.lemmas.List.{length-set}
 use Rattle.gate_plan.specs.declared.wire.Wire.{Wire}
 use Rattle.gate_plan.specs.Bristol.{output_wire}
@@ -20,11 +20,13 @@ loop-out-preserved c =
     let same = c.loop-out.invariant.0 in (
       omega arith,
       length-set c.loop-out.wires out c.output_wire.result ∙ c.loop-out.invariant.1,
-      ap₂ (λ (ws : List Wire) (a : Wire). set ws out a) c.loop-out.invariant.2 (c.output_wire.ensures ∙ ap made same)
+      ap₂ (λ (ws : List Wire) (a : Wire). set ws out a) c.loop-out.invariant.2
+          (c.output_wire.ensures ∙ ap made same)
           ∙ sym (rewired_next c.args.wires.now c.args.outs.now made k c.loop-out-test.true),
     )
 
 pub returns : goal.returns
 returns c =
     c.loop-out.invariant.2
-    ∙ rewired_all c.args.wires.now c.args.outs.now (output_wire c.args.kind c.args.x c.args.first) c.loop-out.out-index c.loop-out-test.false
+    ∙ rewired_all c.args.wires.now c.args.outs.now
+    (output_wire c.args.kind c.args.x c.args.first) c.loop-out.out-index c.loop-out-test.false

@@ -21,4 +21,5 @@ loop-at-preserved c =
     let test = c.loop-at-test.true in
     let here = some_at all c.loop-at.at (omega arith) in
     let is = of_statement _ (λ s. c.is_built.result ≡ is_built all s) here.0 here.1 c.is_built.ensures in
-    all_next (is_built all) all c.loop-at.at here.0 here.1 c.loop-at.invariant (sym is ∙ c.if-not-is_built.false)
+    all_next (is_built all) all c.loop-at.at here.0 here.1 c.loop-at.invariant
+    (sym is ∙ c.if-not-is_built.false)

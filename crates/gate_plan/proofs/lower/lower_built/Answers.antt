@@ -21,7 +21,8 @@ of-requires c =
     let len = c.len-at-end.ensures.value in
     let all : c.loop-at.at ≡ length circuit.statements = omega arith in
     let whole : c.loop-at.draft ≡ lowered circuit = c.loop-at.invariant.0 ∙ ap (draft_to circuit) all in
-    subst IsPlan (sym whole) (lowered_is_plan circuit c.len-at-end.ensures.circuit c.requires.built c.requires.few)
+    subst IsPlan (sym whole)
+    (lowered_is_plan circuit c.len-at-end.ensures.circuit c.requires.built c.requires.few)
 
 pub loop-at-preserved : goal.loop-at-preserved
 loop-at-preserved c =
@@ -35,10 +36,12 @@ loop-at-preserved c =
     let most = c.inputs_taken-inputs.ensures.most in
     let known = before.2 in
     let few = before.3 in
-    let all : c.loop-at.inputs + c.inputs_taken-inputs.result ≡ length (inputs_of (take (at + 1) statements)) = omega arith in (
+    let all : c.loop-at.inputs + c.inputs_taken-inputs.result ≡ length
+    (inputs_of (take (at + 1) statements)) = omega arith in (
       c.in_ok-wire.ensures.next,
       c.in_ok-push.ensures.items
-          ∙ (ap (λ (ws : List Wire). ws ++ c.in_ok-wire.wire ∷ []) (sym c.deref.ensures.value) ∙ c.in_ok-wire.ensures.given),
+          ∙ (ap (λ (ws : List Wire). ws ++ c.in_ok-wire.wire ∷ []) (sym c.deref.ensures.value)
+          ∙ c.in_ok-wire.ensures.given),
       all,
       omega arith,
     )
@@ -53,7 +56,8 @@ returns-clause-count c =
     let whole : c.loop-at.draft ≡ lowered circuit = c.loop-at.invariant.0 ∙ ap (draft_to circuit) all in
     let Q : Gates → Type 0 = λ plan. length plan.gates ≡ all_gates circuit in
     if_ok c.of.result (λ plan. plan ≡ c.loop-at.draft) Q
-    (λ plan is. subst Q (sym (is ∙ whole)) (count circuit (length circuit.statements) c.requires.built (omega arith))) c.of.ensures
+    (λ plan is. subst Q (sym (is ∙ whole))
+    (count circuit (length circuit.statements) c.requires.built (omega arith))) c.of.ensures
 
 pub returns-clause-keeps : goal.returns-clause-keeps
 returns-clause-keeps c =
@@ -65,4 +69,5 @@ returns-clause-keeps c =
     let whole : c.loop-at.draft ≡ lowered circuit = c.loop-at.invariant.0 ∙ ap (draft_to circuit) all in
     let Q : Gates → Type 0 = λ plan. KeepsEvaluation circuit plan in
     if_ok c.of.result (λ plan. plan ≡ c.loop-at.draft) Q
-    (λ plan is. subst Q (sym (is ∙ whole)) (keeps_evaluation circuit c.len-at-end.ensures.circuit c.requires.built c.requires.few)) c.of.ensures
+    (λ plan is. subst Q (sym (is ∙ whole))
+    (keeps_evaluation circuit c.len-at-end.ensures.circuit c.requires.built c.requires.few)) c.of.ensures

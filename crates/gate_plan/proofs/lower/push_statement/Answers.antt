@@ -2,11 +2,9 @@ use Rattle.std.proofs.Common.{◌≡◌, false, ◌++◌, ◌∷◌, [], ◌+◌
 use Rattle.std.specs.Prelude.{slice_get}
 use Rattle.mot_base.proofs.Lists.{some_at, on_ok}
 use Rattle.share_types.specs.Wires.{width_of}
-use Rattle.mixed_language.specs.declared.language.Operation.{Operation}
 use Rattle.mixed_language.specs.declared.language.Operation.TheVariants.{ConstBits}
 use Rattle.mixed_language.specs.Circuit.{Shape, shape_of}
 use Rattle.mixed_language.proofs.EvalLemmas.{of_statement}
-use Rattle.gate_plan.specs.declared.wire.Wire.{Wire}
 use Rattle.gate_plan.specs.Lowering.{wire_handled, is_conversion, operand_wire, lowered_to}
 use Rattle.gate_plan.proofs.BuiltLemmas.{built_at, converts_nothing}
 use Rattle.gate_plan.proofs.StatementLemmas.{if_ok, handled, constant_width, code_block, room, draft_next, wires_next, shape_here}
@@ -16,39 +14,58 @@ pub push_block-requires-clause-built : goal.push_block-requires-clause-built
 push_block-requires-clause-built c =
     let circuit = c.args.circuit.now in
     let here = some_at circuit.statements c.args.at c.requires.at in
-    let same = shape_here circuit.statements c.args.at here.0 (shape_of c.form-form.result) here.1 c.form-form.ensures.value in
-    subst (λ (sh : Shape). is_conversion sh.operation ≡ false) same (converts_nothing circuit.statements here.0 (built_at circuit c.args.at here.0 c.requires.built here.1))
+    let same =
+    shape_here circuit.statements c.args.at here.0
+    (shape_of c.form-form.result) here.1 c.form-form.ensures.value in
+    subst (λ (sh : Shape). is_conversion sh.operation ≡ false) same
+    (converts_nothing circuit.statements here.0
+    (built_at circuit c.args.at here.0 c.requires.built here.1))
 
 pub push_block-requires-clause-constant : goal.push_block-requires-clause-constant
 push_block-requires-clause-constant c =
     let circuit = c.args.circuit.now in
     let here = some_at circuit.statements c.args.at c.requires.at in
-    let same = shape_here circuit.statements c.args.at here.0 (shape_of c.form-form.result) here.1 c.form-form.ensures.value in
-    let wired = of_statement _ (λ s. c.wire_handled.result ≡ wire_handled circuit.statements s) here.0 here.1 c.wire_handled.ensures.value in
+    let same =
+    shape_here circuit.statements c.args.at here.0
+    (shape_of c.form-form.result) here.1 c.form-form.ensures.value in
+    let wired =
+    of_statement _ (λ s. c.wire_handled.result ≡ wire_handled circuit.statements s) here.0 here.1
+    c.wire_handled.ensures.value in
     subst (λ (sh : Shape). sh.operation ≡ ConstBits → sh.width ≡ width_of c.in-Some.wire) same
-    (constant_width circuit c.requires.circuit c.requires.built c.args.at here.0 here.1 c.in-Some.wire (sym c.in-Some.is ∙ wired))
+    (constant_width circuit c.requires.circuit c.requires.built c.args.at here.0 here.1 c.in-Some.wire
+    (sym c.in-Some.is ∙ wired))
 
 pub push_block-requires-clause-room : goal.push_block-requires-clause-room
 push_block-requires-clause-room c =
     let circuit = c.args.circuit.now in
     let here = some_at circuit.statements c.args.at c.requires.at in
-    let same = shape_here circuit.statements c.args.at here.0 (shape_of c.form-form.result) here.1 c.form-form.ensures.value in
-    let wired = of_statement _ (λ s. c.wire_handled.result ≡ wire_handled circuit.statements s) here.0 here.1 c.wire_handled.ensures.value in
+    let same =
+    shape_here circuit.statements c.args.at here.0
+    (shape_of c.form-form.result) here.1 c.form-form.ensures.value in
+    let wired =
+    of_statement _ (λ s. c.wire_handled.result ≡ wire_handled circuit.statements s) here.0 here.1
+    c.wire_handled.ensures.value in
     let first = c.operand_wire-x.ensures ∙ ap (operand_wire c.args.wires.now) c.operands_of-x.ensures.first
     ∙ ap (λ ws. operand_wire ws (slice_get (shape_of c.form-form.result).operands 0)) c.requires.wires in
     let second = c.operand_wire-y.ensures ∙ ap (operand_wire c.args.wires.now) c.operands_of-x.ensures.second
     ∙ ap (λ ws. operand_wire ws (slice_get (shape_of c.form-form.result).operands 1)) c.requires.wires in
-    let is = code_block circuit c.requires.circuit c.requires.built c.args.at here.0 here.1 (shape_of c.form-form.result)
+    let is = code_block circuit c.requires.circuit c.requires.built c.args.at here.0 here.1
+    (shape_of c.form-form.result)
     c.operand_wire-x.result c.operand_wire-y.result c.args.inputs c.in-Some.wire c.args.draft.now
     same first second c.requires.inputs (sym c.in-Some.is ∙ wired) c.requires.before in
-    room circuit c.requires.circuit c.requires.built c.args.at here.0 here.1 c.args.draft.now _ c.requires.few c.requires.before is
+    room circuit c.requires.circuit c.requires.built c.args.at here.0 here.1 c.args.draft.now _
+    c.requires.few c.requires.before is
 
 pub unreachable-requires : goal.unreachable-requires
 unreachable-requires c =
     let circuit = c.args.circuit.now in
     let here = some_at circuit.statements c.args.at c.requires.at in
-    let same = shape_here circuit.statements c.args.at here.0 (shape_of c.form-form.result) here.1 c.form-form.ensures.value in
-    let wired = of_statement _ (λ s. c.wire_handled.result ≡ wire_handled circuit.statements s) here.0 here.1 c.wire_handled.ensures.value in
+    let same =
+    shape_here circuit.statements c.args.at here.0
+    (shape_of c.form-form.result) here.1 c.form-form.ensures.value in
+    let wired =
+    of_statement _ (λ s. c.wire_handled.result ≡ wire_handled circuit.statements s) here.0 here.1
+    c.wire_handled.ensures.value in
     let h = handled circuit c.requires.circuit c.requires.built c.args.at here.0 here.1 in
     let contrary = sym c.in-None.is ∙ (wired ∙ h.1) in
     cc
@@ -57,32 +74,45 @@ pub returns-clause-next : goal.returns-clause-next
 returns-clause-next c =
     let circuit = c.args.circuit.now in
     let here = some_at circuit.statements c.args.at c.requires.at in
-    let same = shape_here circuit.statements c.args.at here.0 (shape_of c.form-form.result) here.1 c.form-form.ensures.value in
-    let wired = of_statement _ (λ s. c.wire_handled.result ≡ wire_handled circuit.statements s) here.0 here.1 c.wire_handled.ensures.value in
+    let same =
+    shape_here circuit.statements c.args.at here.0
+    (shape_of c.form-form.result) here.1 c.form-form.ensures.value in
+    let wired =
+    of_statement _ (λ s. c.wire_handled.result ≡ wire_handled circuit.statements s) here.0 here.1
+    c.wire_handled.ensures.value in
     let first = c.operand_wire-x.ensures ∙ ap (operand_wire c.args.wires.now) c.operands_of-x.ensures.first
     ∙ ap (λ ws. operand_wire ws (slice_get (shape_of c.form-form.result).operands 0)) c.requires.wires in
     let second = c.operand_wire-y.ensures ∙ ap (operand_wire c.args.wires.now) c.operands_of-x.ensures.second
     ∙ ap (λ ws. operand_wire ws (slice_get (shape_of c.form-form.result).operands 1)) c.requires.wires in
-    let is = code_block circuit c.requires.circuit c.requires.built c.args.at here.0 here.1 (shape_of c.form-form.result)
+    let is = code_block circuit c.requires.circuit c.requires.built c.args.at here.0 here.1
+    (shape_of c.form-form.result)
     c.operand_wire-x.result c.operand_wire-y.result c.args.inputs c.in-Some.wire c.args.draft.now
     same first second c.requires.inputs (sym c.in-Some.is ∙ wired) c.requires.before in
     on_ok c.push_block.result
-    (λ more. draft_next circuit c.requires.circuit c.requires.built c.args.at here.0 here.1 c.args.draft.now c.push_block.new.draft _ c.requires.before is more)
+    (λ more. draft_next circuit c.requires.circuit c.requires.built c.args.at here.0 here.1 c.args.draft.now
+    c.push_block.new.draft _ c.requires.before is more)
     c.push_block.ensures.next
 
 pub returns-clause-given : goal.returns-clause-given
 returns-clause-given c =
     let circuit = c.args.circuit.now in
     let here = some_at circuit.statements c.args.at c.requires.at in
-    let same = shape_here circuit.statements c.args.at here.0 (shape_of c.form-form.result) here.1 c.form-form.ensures.value in
-    let wired = of_statement _ (λ s. c.wire_handled.result ≡ wire_handled circuit.statements s) here.0 here.1 c.wire_handled.ensures.value in
+    let same =
+    shape_here circuit.statements c.args.at here.0
+    (shape_of c.form-form.result) here.1 c.form-form.ensures.value in
+    let wired =
+    of_statement _ (λ s. c.wire_handled.result ≡ wire_handled circuit.statements s) here.0 here.1
+    c.wire_handled.ensures.value in
     let first = c.operand_wire-x.ensures ∙ ap (operand_wire c.args.wires.now) c.operands_of-x.ensures.first
     ∙ ap (λ ws. operand_wire ws (slice_get (shape_of c.form-form.result).operands 0)) c.requires.wires in
     let second = c.operand_wire-y.ensures ∙ ap (operand_wire c.args.wires.now) c.operands_of-x.ensures.second
     ∙ ap (λ ws. operand_wire ws (slice_get (shape_of c.form-form.result).operands 1)) c.requires.wires in
-    let is = code_block circuit c.requires.circuit c.requires.built c.args.at here.0 here.1 (shape_of c.form-form.result)
+    let is = code_block circuit c.requires.circuit c.requires.built c.args.at here.0 here.1
+    (shape_of c.form-form.result)
     c.operand_wire-x.result c.operand_wire-y.result c.args.inputs c.in-Some.wire c.args.draft.now
     same first second c.requires.inputs (sym c.in-Some.is ∙ wired) c.requires.before in
-    if_ok c.push_block.result (λ wire. wire ≡ _) (λ wire. c.args.wires.now ++ wire ∷ [] ≡ (lowered_to circuit (c.args.at + 1)).wires)
-    (λ wire own. wires_next circuit c.requires.circuit c.requires.built c.args.at here.0 here.1 c.args.wires.now wire _ c.requires.wires is own)
+    if_ok c.push_block.result (λ wire. wire ≡ _)
+    (λ wire. c.args.wires.now ++ wire ∷ [] ≡ (lowered_to circuit (c.args.at + 1)).wires)
+    (λ wire own. wires_next circuit c.requires.circuit c.requires.built c.args.at here.0 here.1
+    c.args.wires.now wire _ c.requires.wires is own)
     c.push_block.ensures.given
