@@ -2,11 +2,20 @@
 //! for each item with the number of edges to it that are not given yet, and a slot for the value on each edge.
 #![tactic(auto)]
 
+mod close;
+mod collected;
 mod deque;
+mod hand;
 mod hints;
 mod item;
+mod run;
 mod shift;
+mod start;
 mod table;
 mod view;
+mod waves;
 
+pub use collected::Collected;
+pub use run::run_pool;
 pub use view::View;
+pub use waves::run_waves;
