@@ -25,6 +25,7 @@ static EDGES: [(u32, u32); 8] = [
 ];
 
 /// Holds the first worker that enters until so many others have left, and tells where that did not come to pass.
+#[derive(Drop)]
 struct Holding {
     wanted: u64,
     entered: AtomicU64,
@@ -86,7 +87,7 @@ fn is_shared<R: Threads + Sync>(rt: &R, alloc: Global, way: Way, wanted: u64) ->
     let Some(collected) = run_by(rt, alloc, way, &work, 2, &gate) else {
         return false;
     };
-    collected.ends.as_slice() == [4, 5, 6, 7]
+    collected.ends.as_slice() == [4, 5, 6, 7].as_slice()
         && is_each_once(alloc, &collected.ran, 8)
         && gate.is_served()
 }

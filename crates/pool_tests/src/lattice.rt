@@ -44,13 +44,7 @@ fn work(alloc: Global) -> Option<Sums> {
 }
 
 /// Whether the ends come to what they must, and each item was run once, by so many workers.
-fn is_added<R: Threads + Sync>(
-    rt: &R,
-    alloc: Global,
-    way: Way,
-    work: &Sums,
-    workers: u8,
-) -> bool {
+fn is_added<R: Threads + Sync>(rt: &R, alloc: Global, way: Way, work: &Sums, workers: u8) -> bool {
     let Some(collected) = run_by(rt, alloc, way, work, workers, &OpenGate) else {
         return false;
     };

@@ -42,7 +42,7 @@ fn is_nine<R: Threads + Sync>(rt: &R, alloc: Global, way: Way, workers: u8) -> b
     let Some(collected) = run_by(rt, alloc, way, &work, workers, &OpenGate) else {
         return false;
     };
-    collected.ends.as_slice() == [9]
+    collected.ends.as_slice() == [9].as_slice()
         && collected.ran.len() == usize::from(workers)
         && is_each_once(alloc, &collected.ran, 3)
 }
