@@ -24,9 +24,10 @@ static EDGES: [(u32, u32); 8] = [
     (7, TERMINAL),
 ];
 
-/// Holds the first worker that enters until so many others have left, and tells where that did not come to pass.
+/// Holds the item that enters after so many others until so many have left, and tells where that did not come to pass.
 #[derive(Drop)]
 struct Holding {
+    before: u64,
     wanted: u64,
     entered: AtomicU64,
     left: AtomicU64,
@@ -34,8 +35,9 @@ struct Holding {
 }
 
 impl Holding {
-    fn new(wanted: u64) -> Holding {
+    fn new(before: u64, wanted: u64) -> Holding {
         Holding {
+            before,
             wanted,
             entered: AtomicU64::new(0),
             left: AtomicU64::new(0),
@@ -43,7 +45,7 @@ impl Holding {
         }
     }
 
-    /// Whether the worker that was held went on since enough others had left, and all eight items left.
+    /// Whether the item that was held went on since enough others had left, and all eight items left.
     fn is_served(&self) -> bool {
         self.late.load(Ordering::SeqCst) == 0
             && self.entered.load(Ordering::SeqCst) == 8
@@ -53,7 +55,7 @@ impl Holding {
 
 impl Turnstile for Holding {
     fn enter(&self, _item: u32) {
-        if self.entered.fetch_add(1, Ordering::SeqCst) != 0 {
+        if self.entered.fetch_add(1, Ordering::SeqCst) != self.before {
             return;
         }
         for look in 0..LOOKS {
@@ -78,12 +80,12 @@ fn work(alloc: Global) -> Option<Sums> {
     Some(Sums { dag })
 }
 
-/// Whether two workers run all items, while the first item waits until so many others have left.
-fn is_shared<R: Threads + Sync>(rt: &R, alloc: Global, way: Way, wanted: u64) -> bool {
+/// Whether two workers run all items, while the one that enters after so many waits until so many others have left.
+fn is_shared<R: Threads + Sync>(rt: &R, alloc: Global, way: Way, before: u64, wanted: u64) -> bool {
     let Some(work) = work(alloc) else {
         return false;
     };
-    let gate = Holding::new(wanted);
+    let gate = Holding::new(before, wanted);
     let Some(collected) = run_by(rt, alloc, way, &work, 2, &gate) else {
         return false;
     };
@@ -95,13 +97,14 @@ fn is_shared<R: Threads + Sync>(rt: &R, alloc: Global, way: Way, wanted: u64) ->
 // all but the held one and the one after it: the other worker runs what it made ready, and steals from the held worker
 #[test]
 fn other_items_leave_first(rt: HostRuntime) {
-    let is_right = is_shared(&rt, rt.alloc(), Way::Pool, 6);
+    let is_right = is_shared(&rt, rt.alloc(), Way::Pool, 0, 6);
     assert!(rt; is_right);
 }
 
-// of a wave of four the two that are dealt to the other worker
+// of each of the two waves the two items that are dealt to the other worker
 #[test]
 fn other_items_of_a_wave_leave_first(rt: HostRuntime) {
-    let is_right = is_shared(&rt, rt.alloc(), Way::Waves, 2);
+    let is_right = is_shared(&rt, rt.alloc(), Way::Waves, 0, 2)
+        && is_shared(&rt, rt.alloc(), Way::Waves, 4, 6);
     assert!(rt; is_right);
 }
