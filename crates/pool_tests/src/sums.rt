@@ -10,8 +10,8 @@ use std::thread::Threads;
 use task_pool::Work;
 use turn_core::{Dag, OUTSIDE};
 
-/// An item at which no edge ends sends 4 more than its number along each of its edges, and any other the sum of what came
-/// to it.
+/// An item at which no edge ends sends 4 more than its number along each of its edges, and any other the sum of
+/// what came to it.
 #[derive(Drop)]
 pub(crate) struct Sums {
     pub dag: Dag,

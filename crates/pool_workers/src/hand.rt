@@ -23,7 +23,8 @@ impl<L: Limit> Model for Hand<L> {
 
     ghost view = { λ s. tt };
 
-    ghost invariant = { λ s. All (λ item. item < L.limit) s.dealt.items × All (λ item. item < L.limit) s.made.items };
+    ghost invariant = { λ s.
+        All (λ item. item < L.limit) s.dealt.items × All (λ item. item < L.limit) s.made.items };
 }
 
 impl<L: Limit> Hand<L> {

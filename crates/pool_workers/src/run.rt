@@ -22,12 +22,13 @@ use std::thread::Threads;
 use task_pool::Work;
 use turn_core::Dag;
 
-/// Runs all items of a graph by 1 to 16 workers side by side, and gives the values on the edges that end at no item, in
-/// the order of the edges, and what each worker ran. No edge comes from outside. The items that are ready at the start are
-/// dealt to the workers' deques in turn. A worker puts what it makes ready into its own deque, runs that empty, then tries
-/// to steal from each of the others once, and ends where it finds nothing. Where a thread cannot be started the caller
-/// does its work. After the workers have ended the caller runs what is left, in rising order. A worker passes the gate
-/// with each item. It waits for nobody but the workers that it started.
+/// Runs all items of a graph by 1 to 16 workers side by side, and gives the values on the edges that end at no
+/// item, in the order of the edges, and what each worker ran. No edge comes from outside. The items that are
+/// ready at the start are dealt to the workers' deques in turn. A worker puts what it makes ready into its own
+/// deque, runs that empty, then tries to steal from each of the others once, and ends where it finds nothing.
+/// Where a thread cannot be started the caller does its work. After the workers have ended the caller runs what
+/// is left, in rising order. A worker passes the gate with each item. It waits for nobody but the workers that
+/// it started.
 pub fn run_pool<W: Work + Sync, G: Turnstile + Sync, R: Threads + Sync>(
     rt: &R,
     alloc: Global,

@@ -285,7 +285,7 @@ where
     Ok(shifts)
 }
 
-/// The workers that have ended, where memory was wanting for none.
+/// The workers that have ended, where memory was wanting for none. The contract alone asks which pool it is.
 fn all_well<E: Drop, M: Meaning<E>, H: Hints + Drop>(
     alloc: Global,
     _pool: &Pool<E, M>,

@@ -19,11 +19,12 @@ use std::thread::Threads;
 use task_pool::Work;
 use turn_core::Dag;
 
-/// Runs all items of a graph by 1 to 16 workers in waves, and gives the values on the edges that end at no item, in the
-/// order of the edges, and what each worker ran. No edge comes from outside. The ready items are dealt to the workers in
-/// turn, which run them side by side; once all have ended, the items that they made ready are the next wave. Where a
-/// thread cannot be started the caller does its work. After the last wave the caller runs what is left, in rising order.
-/// A worker passes the gate with each item. It waits for nobody but the workers that it started.
+/// Runs all items of a graph by 1 to 16 workers in waves, and gives the values on the edges that end at no item,
+/// in the order of the edges, and what each worker ran. No edge comes from outside. The ready items are dealt to
+/// the workers in turn, which run them side by side; once all have ended, the items that they made ready are the
+/// next wave. Where a thread cannot be started the caller does its work. After the last wave the caller runs
+/// what is left, in rising order. A worker passes the gate with each item. It waits for nobody but the workers
+/// that it started.
 pub fn run_waves<W: Work + Sync, G: Turnstile + Sync, R: Threads + Sync>(
     rt: &R,
     alloc: Global,
@@ -133,7 +134,7 @@ where
     Ok(shifts)
 }
 
-/// Deals the items of a wave to the workers in turn.
+/// Deals the items of a wave to the workers in turn. The contract alone asks which pool it is.
 fn deal_wave<E: Drop, M: Meaning<E>, L: Limit>(
     alloc: Global,
     _pool: &Pool<E, M>,
