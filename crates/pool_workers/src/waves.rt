@@ -127,11 +127,53 @@ where
         if ready.is_empty() {
             break;
         }
-        let dealt = deal_wave(alloc, pool, shifts, &ready)?;
-        shifts = run_shifts(rt, alloc, dag, pool, work, gate, dealt)?;
+        shifts = run_wave(rt, alloc, dag, pool, work, gate, shifts, &ready)?;
         ready = made_ready(alloc, &shifts)?;
     }
     Ok(shifts)
+}
+
+/// Runs the items of a wave. A worker that is dealt none of them starts no thread.
+fn run_wave<
+    W: Work + Sync,
+    M: Meaning<W::Edge> + Send + Sync,
+    L: Limit + Send + Sync,
+    G: Turnstile + Sync,
+    R: Threads + Sync,
+>(
+    rt: &R,
+    alloc: Global,
+    dag: &Dag,
+    pool: &Pool<W::Edge, M>,
+    work: &W,
+    gate: &G,
+    shifts: Vec<Shift<W::Edge, Hand<L>>>,
+    items: &[u32],
+) -> Result<Vec<Shift<W::Edge, Hand<L>>>, NoMemory>
+where
+    W::Edge: Send,
+    requires dag { (M.items ≡ dag.now.items) × (M.edges ≡ dag.now.edges) × IsForward M.items M.edges }
+    requires work { ((W.graph work.now).items ≡ M.items) × ((W.graph work.now).edges ≡ M.edges) ×
+        Agree M.means (W.means work.now) }
+    requires table { pool.now.shared.table_id.words ≡ M.items + 1 }
+    requires below { All (λ item. item < L.limit) items.now }
+    requires worked { All (λ s. HasWorked M.edges pool.now.shared.table_id s.worker s.ran.items ×
+        (L.limit ≡ M.items)) shifts.items }
+    ensures many { IfOk result (λ more. length more.items ≡ length shifts.items) }
+    ensures worked { IfOk result (λ more. All (λ s.
+        HasWorked M.edges pool.now.shared.table_id s.worker s.ran.items × (L.limit ≡ M.items)) more.items) }
+{
+    let Wave { busy, mut idle } = deal_wave(alloc, pool, shifts, items)?;
+    let mut busy = run_shifts(rt, alloc, dag, pool, work, gate, busy)?;
+    idle.append(&mut busy)?;
+    Ok(idle)
+}
+
+/// The workers at a wave: those that were dealt items of it, and the others.
+#[derive(Drop)]
+struct Wave<E, L: Limit> {
+    busy: Vec<Shift<E, Hand<L>>>,
+    idle: Vec<Shift<E, Hand<L>>>,
 }
 
 /// Deals the items of a wave to the workers in turn. The contract alone asks which pool it is.
@@ -140,26 +182,36 @@ fn deal_wave<E: Drop, M: Meaning<E>, L: Limit>(
     _pool: &Pool<E, M>,
     mut shifts: Vec<Shift<E, Hand<L>>>,
     items: &[u32],
-) -> Result<Vec<Shift<E, Hand<L>>>, NoMemory>
+) -> Result<Wave<E, L>, NoMemory>
     requires below { All (λ item. item < L.limit) items.now }
     requires worked { All (λ s. HasWorked M.edges _pool.now.shared.table_id s.worker s.ran.items ×
         (L.limit ≡ M.items)) shifts.items }
-    ensures many { IfOk result (λ more. length more.items ≡ length shifts.items) }
-    ensures worked { IfOk result (λ more. All (λ s.
-        HasWorked M.edges _pool.now.shared.table_id s.worker s.ran.items × (L.limit ≡ M.items)) more.items) }
+    ensures many { IfOk result (λ wave.
+        length wave.busy.items + length wave.idle.items ≡ length shifts.items) }
+    ensures busy { IfOk result (λ wave. All (λ s.
+        HasWorked M.edges _pool.now.shared.table_id s.worker s.ran.items × (L.limit ≡ M.items)) wave.busy.items) }
+    ensures idle { IfOk result (λ wave. All (λ s.
+        HasWorked M.edges _pool.now.shared.table_id s.worker s.ran.items × (L.limit ≡ M.items)) wave.idle.items) }
 {
     let workers = shifts.len();
-    let mut dealt = Vec::with_capacity(alloc, workers)?;
+    let mut busy = Vec::new(alloc);
+    let mut idle = Vec::new(alloc);
     while let Some(shift) = shifts.pop() {
+        let me = shifts.len();
         let Shift {
             worker,
             mut hints,
             ran,
         } = shift;
-        hints.deal(items, workers, shifts.len())?;
-        dealt.push(Shift { worker, hints, ran })?;
+        hints.deal(items, workers, me)?;
+        let dealt = Shift { worker, hints, ran };
+        if me < items.len() {
+            busy.push(dealt)?;
+            continue;
+        }
+        idle.push(dealt)?;
     }
-    Ok(dealt)
+    Ok(Wave { busy, idle })
 }
 
 /// The items that the workers made ready.

@@ -5,10 +5,11 @@ use Rattle.pool_workers.proofs.waves.deal_wave.Given as goal
 
 abbrev pub invariant-loop-shift : goal.invariant-loop-shift
 invariant-loop-shift g l = record {
-  over : length l.dealt.items + length l.shifts.items ≡ length l.fn.shifts.items;
+  over : length l.busy.items + length l.idle.items + length l.shifts.items ≡ length l.fn.shifts.items;
   many : l.workers ≡ length l.fn.shifts.items;
   waiting : All (λ s. HasWorked g.M.Meaning.edges l._pool.shared.table_id s.worker s.ran.items × (g.L.Limit.limit ≡ g.M.Meaning.items)) l.shifts.items;
-  worked : All (λ s. HasWorked g.M.Meaning.edges l._pool.shared.table_id s.worker s.ran.items × (g.L.Limit.limit ≡ g.M.Meaning.items)) l.dealt.items;
+  busy : All (λ s. HasWorked g.M.Meaning.edges l._pool.shared.table_id s.worker s.ran.items × (g.L.Limit.limit ≡ g.M.Meaning.items)) l.busy.items;
+  idle : All (λ s. HasWorked g.M.Meaning.edges l._pool.shared.table_id s.worker s.ran.items × (g.L.Limit.limit ≡ g.M.Meaning.items)) l.idle.items;
 }
 
 abbrev pub decreases-loop-shift : goal.decreases-loop-shift
