@@ -5,3 +5,5 @@ pub mod SlotSteps
 pub mod Items
 pub mod Pools
 pub mod Closings
+pub mod Starts
+pub mod Ends

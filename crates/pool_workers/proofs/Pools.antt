@@ -1,12 +1,17 @@
 -- Workers side by side, and the last pass.
-use Rattle.std.proofs.Common.{◌≡◌, ℕ, ◌+◌, ◌<◌, ◌≤◌, Bool, true, false, List, [], ◌∷◌, ◌++◌, Option, Vec, Global, sym, ap, ◌∙◌, subst, arith}
+use Rattle.std.proofs.Common.{◌≡◌, ℕ, ◌+◌, ◌<◌, ◌≤◌, Bool, true, false, List, [], ◌∷◌, ◌++◌, length, Option, Some, Vec, Global, sym, ap, ◌∙◌, subst, arith}
+use Rattle.std.specs.Prelude.{IfSome}
+use Rattle.std.specs.List.{All}
+use Rattle.std.specs.Option.{option_to_list}
+use Rattle.std.proofs.lemmas.List.{length_push}
+use Rattle.std.proofs.lemmas.List.Elements.{All-pop, All-push, All-same}
 use Rattle.atomic_table.specs.Table.{Me}
 use Rattle.atomic_table.specs.Seated.{TableId}
 use Rattle.atomic_table.specs.declared.shared.Seat.{Seat}
 use Rattle.turn_core.specs.declared.edge.Edge.{Edge}
 use Rattle.pool_workers.specs.declared.view.View.{View}
 use Rattle.pool_workers.specs.Sums.{times, times_in, missing, source_at, IsForward}
-use Rattle.pool_workers.specs.Words.{together}
+use Rattle.pool_workers.specs.Words.{view, together}
 use Rattle.pool_workers.specs.Steps.{Complete, IsIdle, Tried}
 use Rattle.pool_workers.specs.Shifts.{HasWorked, lists, AreItems}
 use Rattle.pool_workers.proofs.Counts.{times-append, times-snoc, none_missing}
@@ -22,6 +27,18 @@ items-append n (x ∷ xs) ys all more = (all.0, items-append n xs ys all.1 more)
 pub lists-snoc : (x : ℕ) (ran : List (Vec ℕ Global)) (last : Vec ℕ Global) → times_in x (lists (ran ++ last ∷ [])) ≡ times_in x (lists ran) + times x last.items
 lists-snoc x [] last = omega arith
 lists-snoc x (r ∷ ran) last = let ih = lists-snoc x ran last in omega arith
+
+-- one of a list was popped, and one was pushed
+pub popped : {X : Type 0} (P : X → Type 0) (xs ys : List X) (r : Option X) (x : X) → xs ≡ ys ++ option_to_list r → r ≡ Some x → All P xs → All P ys × P x × (length xs ≡ length ys + 1)
+popped {X = X} P xs ys r x is some all =
+    let p = All-pop P xs ys r is all in (
+      p.0,
+      subst (λ (o : Option X). IfSome o P) some p.1,
+      ap (λ (l : List X). length l) is ∙ ap (λ (o : Option X). length (ys ++ option_to_list o)) some ∙ length_push ys x,
+    )
+
+pub pushed : {X : Type 0} (P : X → Type 0) (xs more : List X) (x : X) → more ≡ xs ++ x ∷ [] → All P xs → P x → All P more × (length more ≡ length xs + 1)
+pushed {X = X} P xs more x is all here = (All-same P more (xs ++ x ∷ []) is (All-push P xs x all here), ap (λ (l : List X). length l) is ∙ length_push xs x)
 
 -- an item was tried, and it ran
 pub did_ran : (item : ℕ) (v w : View) (old new : List ℕ) → Tried true item v w → new ≡ old ++ item ∷ [] → (x : ℕ) → times x new + times x v.took ≡ times x old + times x w.took
@@ -82,3 +99,14 @@ module _ {E : Type 0} (edges : List Edge) where
 
   pub idle_start : (me : Me (Option E) View) → me.1 ≡ [] → 0 < me.0.parts → me.0.took ≡ [] → me.0.gave ≡ [] → IsIdle edges me
   idle_start me free some_part took gave = (free, some_part, λ e within. ap (times e) gave ∙ sym (ap (times (source_at edges e)) took))
+
+  -- a worker that was just made
+  pub worked_none : (id : TableId) (s : Seat (Option E) View) (ran : List ℕ) → s.table_id ≡ id → s.me ≡ (view 1 [] [], []) → ran ≡ [] → HasWorked edges id s ran
+  worked_none id s ran same fresh none =
+      let one : s.me.0.parts ≡ 1 = ap (λ (m : Me (Option E) View). m.0.parts) fresh in
+      record {
+        table = same;
+        idle = idle_start s.me (ap (λ (m : Me (Option E) View). m.1) fresh) (omega arith) (ap (λ (m : Me (Option E) View). m.0.took) fresh) (ap (λ (m : Me (Option E) View). m.0.gave) fresh);
+        one = one;
+        took = λ x. ap (times x) none ∙ sym (ap (λ (m : Me (Option E) View). times x m.0.took) fresh);
+      }

@@ -9,15 +9,10 @@ use Rattle.atomic_table.specs.declared.shared.Seat.{Seat}
 use Rattle.turn_core.specs.declared.edge.Edge.{Edge}
 use Rattle.pool_workers.specs.declared.view.View.{View}
 use Rattle.pool_workers.specs.Sums.{times, target_at}
-use Rattle.pool_workers.specs.Words.{view}
 use Rattle.pool_workers.specs.Slots.{Kept}
 use Rattle.pool_workers.specs.Steps.{IsIdle}
 
--- a worker that was just made
-abbrev pub IsReady : {E : Type 0} → TableId → Seat (Option E) View → Type 0
-IsReady id s = (s.table_id ≡ id) × (s.me ≡ (view 1 [] [], []))
-
--- a worker that has ended, and the list of what it ran
+-- a worker between two items, with its one part, and the list of what it ran
 pub record HasWorked {E : Type 0} (edges : List Edge) (id : TableId) (s : Seat (Option E) View)
     (ran : List ℕ) : Type 0 where
   pub table : s.table_id ≡ id

@@ -1,5 +1,6 @@
 -- What each step of a worker tells it.
-use Rattle.std.specs.Prelude.{◌≡◌, ◌≢◌, ℕ, ◌<◌, ◌≤◌, Bool, true, false, List, [], ◌∷◌, ◌++◌, length, map, drop, Option, Some, None}
+use Rattle.std.specs.Prelude.{◌≡◌, ◌≢◌, ℕ, ◌<◌, ◌≤◌, Bool, true, false, List}
+use Rattle.std.specs.Prelude.{[], ◌∷◌, ◌++◌, length, map, drop, Option, Some, None}
 use Rattle.atomic_table.specs.Table.{Me, rest}
 use Rattle.turn_core.specs.declared.edge.Edge.{Edge}
 use Rattle.pool_workers.specs.declared.view.View.{View}

@@ -1,5 +1,6 @@
 -- How often numbers stand in lists, and a graph of items as the pool sees it.
-use Rattle.std.specs.Prelude.{◌≡◌, ◌≢◌, ℕ, suc, ◌+◌, ◌<◌, ◌≤◌, ◌==◌, ◌&&◌, Bool, true, false, List, [], ◌∷◌, length, map, get_or, ◌⊎◌}
+use Rattle.std.specs.Prelude.{◌≡◌, ◌≢◌, ℕ, suc, ◌+◌, ◌<◌, ◌≤◌, ◌==◌, ◌&&◌}
+use Rattle.std.specs.Prelude.{Bool, true, false, List, [], ◌∷◌, length, map, get_or, ◌⊎◌}
 use Rattle.turn_core.specs.declared.edge.Edge.{Edge}
 use Rattle.turn_core.specs.declared.edge.TheConstants.{OUTSIDE, TERMINAL}
 use Rattle.turn_core.specs.Graph.{places}

@@ -32,7 +32,7 @@ impl<L: Limit> Protocol<u32, ()> for Listed<L> {
 }
 
 /// What a push, a pop and a steal tell: the numbers are below the bound.
-struct Handed<L> {
+pub(crate) struct Handed<L> {
     of: PhantomData<L>,
 }
 

@@ -1,9 +1,11 @@
 ghost use Rattle.std.specs.Prelude.{◌≡◌, ℕ, ◌+◌, ◌<◌, ◌≤◌, min, [], List, IfOk, OnOk, length, None};
 ghost use Rattle.atomic_table.specs.Table.{rest};
 ghost use Rattle.task_pool.specs.Meanings.{AreMeanings};
-ghost use Rattle.pool_workers.specs.Sums.{IsForward, times, missing, source_at, target_at, incoming_of, outgoing_of};
+ghost use Rattle.pool_workers.specs.Sums.{IsForward, times, missing, source_at, target_at};
+ghost use Rattle.pool_workers.specs.Sums.{incoming_of, outgoing_of};
 ghost use Rattle.pool_workers.specs.Words.{all_parts, with_edge};
-ghost use Rattle.pool_workers.specs.Steps.{Holding, empties, with_edges, Agree, IsIdle, Tried, MayGive, IsTop};
+ghost use Rattle.pool_workers.specs.Steps.{Holding, empties, with_edges, Agree, IsIdle, Tried};
+ghost use Rattle.pool_workers.specs.Steps.{MayGive, IsTop};
 
 use crate::hints::Hints;
 use crate::table::{Meaning, Pool, Worker, give, take, take_input};

@@ -3,7 +3,7 @@ ghost use Rattle.std.specs.List.{All};
 ghost use Rattle.pool_workers.specs.Sums.{IsForward, times, times_in, missing};
 ghost use Rattle.pool_workers.specs.Words.{all_parts};
 ghost use Rattle.pool_workers.specs.Steps.{Agree, IsIdle};
-ghost use Rattle.pool_workers.specs.Shifts.{HasWorked, IsReady, lists};
+ghost use Rattle.pool_workers.specs.Shifts.{HasWorked, lists};
 
 use crate::hints::{Hints, NoHints};
 use crate::item::try_item;
@@ -15,17 +15,11 @@ use std::thread::Threads;
 use task_pool::Work;
 use turn_core::Dag;
 
-/// A worker with its end of what hands out numbers.
+/// A worker with its end of what hands out numbers, and what it ran.
 #[derive(Drop)]
 pub(crate) struct Shift<E, H> {
     pub worker: Worker<E>,
     pub hints: H,
-}
-
-/// A worker that has ended, with what it ran.
-#[derive(Drop)]
-pub(crate) struct Worked<E> {
-    pub worker: Worker<E>,
     pub ran: Vec<u32>,
 }
 
@@ -76,20 +70,21 @@ fn work_shift<W: Work, M: Meaning<W::Edge>, G: Turnstile, H: Hints + Drop>(
     work: &W,
     gate: &G,
     shift: Shift<W::Edge, H>,
-) -> Result<Worked<W::Edge>, NoMemory>
+) -> Result<Shift<W::Edge, H>, NoMemory>
     requires dag { (M.items ≡ dag.now.items) × (M.edges ≡ dag.now.edges) × IsForward M.items M.edges }
     requires work { ((W.graph work.now).items ≡ M.items) × ((W.graph work.now).edges ≡ M.edges) ×
         Agree M.means (W.means work.now) }
     requires table { pool.now.shared.table_id.words ≡ M.items + 1 }
-    requires ready { IsReady pool.now.shared.table_id shift.worker }
+    requires worked { HasWorked M.edges pool.now.shared.table_id shift.worker shift.ran.items }
     requires hints { H.bound shift.hints ≡ M.items }
-    ensures { IfOk result (λ w. HasWorked M.edges pool.now.shared.table_id w.worker w.ran.items) }
+    ensures { IfOk result (λ s. HasWorked M.edges pool.now.shared.table_id s.worker s.ran.items ×
+        (H.bound s.hints ≡ M.items)) }
 {
     let Shift {
         mut worker,
         mut hints,
+        mut ran,
     } = shift;
-    let mut ran = Vec::new(alloc);
     run_hinted(
         alloc,
         dag,
@@ -100,7 +95,7 @@ fn work_shift<W: Work, M: Meaning<W::Edge>, G: Turnstile, H: Hints + Drop>(
         &mut hints,
         &mut ran,
     )?;
-    Ok(Worked { worker, ran })
+    Ok(Shift { worker, hints, ran })
 }
 
 /// Runs the items that the hints tell of.
@@ -120,7 +115,8 @@ fn run_hinted<W: Work, M: Meaning<W::Edge>, G: Turnstile, H: Hints>(
     requires table { pool.now.shared.table_id.words ≡ M.items + 1 }
     requires hints { H.bound hints.old ≡ M.items }
     requires worked { HasWorked M.edges pool.now.shared.table_id worker.old ran.old.items }
-    ensures { OnOk result (HasWorked M.edges pool.now.shared.table_id worker.new ran.new.items) }
+    ensures worked { OnOk result (HasWorked M.edges pool.now.shared.table_id worker.new ran.new.items) }
+    ensures hints { OnOk result (H.bound hints.new ≡ M.items) }
 {
     let mut inputs = Vec::new(alloc);
     for _turn in 0..u64::MAX {
@@ -199,45 +195,50 @@ pub(crate) fn hire_all<E: Drop, M: Meaning<E>, H: Hints + Drop>(
     ensures view { OnOk result ((caller.new.me.0.parts + length hints.items ≡ caller.old.me.0.parts) ×
         (caller.new.me.0.took ≡ caller.old.me.0.took) × (caller.new.me.0.gave ≡ caller.old.me.0.gave)) }
     ensures shifts { IfOk result (λ shifts. (length shifts.items ≡ length hints.items) ×
-        All (λ s. IsReady pool.now.shared.table_id s.worker × (H.bound s.hints ≡ M.items)) shifts.items) }
+        All (λ s. HasWorked M.edges pool.now.shared.table_id s.worker s.ran.items ×
+        (H.bound s.hints ≡ M.items)) shifts.items) }
 {
     let mut shifts = Vec::with_capacity(alloc, hints.len())?;
     while let Some(end) = hints.pop() {
         let worker = hire(pool, caller);
-        shifts.push(Shift { worker, hints: end })?;
+        shifts.push(Shift {
+            worker,
+            hints: end,
+            ran: Vec::new(alloc),
+        })?;
     }
     Ok(shifts)
 }
 
 /// Takes in the seats of all workers, and keeps what each ran.
-pub(crate) fn take_in_all<E: Drop, M: Meaning<E>>(
+pub(crate) fn take_in_all<E: Drop, M: Meaning<E>, H: Hints + Drop>(
     alloc: Global,
     pool: &Pool<E, M>,
     caller: &mut Worker<E>,
-    mut results: Vec<Result<Worked<E>, NoMemory>>,
+    mut shifts: Vec<Shift<E, H>>,
 ) -> Result<Vec<Vec<u32>>, NoMemory>
     requires table { (caller.old.table_id ≡ pool.now.shared.table_id) ×
         (pool.now.shared.table_id.words ≡ M.items + 1) }
     requires idle { IsIdle M.edges caller.old.me }
     requires none { (caller.old.me.0.took ≡ []) }
-    requires worked { All (λ r. IfOk r (λ w.
-        HasWorked M.edges pool.now.shared.table_id w.worker w.ran.items)) results.items }
+    requires worked { All (λ s. HasWorked M.edges pool.now.shared.table_id s.worker s.ran.items ×
+        (H.bound s.hints ≡ M.items)) shifts.items }
     ensures table { OnOk result (caller.new.table_id ≡ caller.old.table_id) }
     ensures idle { OnOk result (IsIdle M.edges caller.new.me ×
-        (caller.new.me.0.parts ≡ caller.old.me.0.parts + length results.items)) }
-    ensures ran { IfOk result (λ ran. (length ran.items ≡ length results.items) ×
+        (caller.new.me.0.parts ≡ caller.old.me.0.parts + length shifts.items)) }
+    ensures ran { IfOk result (λ ran. (length ran.items ≡ length shifts.items) ×
         ((x : ℕ) → times_in x (lists ran.items) ≡ times x caller.new.me.0.took)) }
 {
-    let mut ran = Vec::with_capacity(alloc, results.len())?;
-    while let Some(result) = results.pop() {
-        let worked = result?;
-        take_in(pool, caller, worked.worker);
-        ran.push(worked.ran)?;
+    let mut rows = Vec::with_capacity(alloc, shifts.len())?;
+    while let Some(shift) = shifts.pop() {
+        let Shift { worker, ran, .. } = shift;
+        take_in(pool, caller, worker);
+        rows.push(ran)?;
     }
-    Ok(ran)
+    Ok(rows)
 }
 
-/// Runs the workers side by side.
+/// Runs the workers side by side, and waits for them.
 pub(crate) fn run_shifts<
     W: Work + Sync,
     M: Meaning<W::Edge> + Send + Sync,
@@ -252,32 +253,57 @@ pub(crate) fn run_shifts<
     work: &W,
     gate: &G,
     shifts: Vec<Shift<W::Edge, H>>,
-) -> Result<Vec<Result<Worked<W::Edge>, NoMemory>>, NoMemory>
+) -> Result<Vec<Shift<W::Edge, H>>, NoMemory>
 where
     W::Edge: Send,
     requires dag { (M.items ≡ dag.now.items) × (M.edges ≡ dag.now.edges) × IsForward M.items M.edges }
     requires work { ((W.graph work.now).items ≡ M.items) × ((W.graph work.now).edges ≡ M.edges) ×
         Agree M.means (W.means work.now) }
     requires table { pool.now.shared.table_id.words ≡ M.items + 1 }
-    requires ready { All (λ s. IsReady pool.now.shared.table_id s.worker ×
+    requires worked { All (λ s. HasWorked M.edges pool.now.shared.table_id s.worker s.ran.items ×
         (H.bound s.hints ≡ M.items)) shifts.items }
-    ensures many { IfOk result (λ results. length results.items ≡ length shifts.items) }
-    ensures worked { IfOk result (λ results. All (λ r. IfOk r (λ w.
-        HasWorked M.edges pool.now.shared.table_id w.worker w.ran.items)) results.items) }
+    ensures many { IfOk result (λ more. length more.items ≡ length shifts.items) }
+    ensures worked { IfOk result (λ more. All (λ s.
+        HasWorked M.edges pool.now.shared.table_id s.worker s.ran.items ×
+        (H.bound s.hints ≡ M.items)) more.items) }
 {
     let results = thread::map_vec(
         rt,
         shifts,
-        &|shift: Shift<W::Edge, H>| -> Result<Worked<W::Edge>, NoMemory>
+        &|shift: Shift<W::Edge, H>| -> Result<Shift<W::Edge, H>, NoMemory>
             requires { (M.items ≡ dag.now.items) × (M.edges ≡ dag.now.edges) × IsForward M.items M.edges ×
                 ((W.graph work.now).items ≡ M.items) × ((W.graph work.now).edges ≡ M.edges) ×
                 Agree M.means (W.means work.now) × (pool.now.shared.table_id.words ≡ M.items + 1) ×
-                IsReady pool.now.shared.table_id shift.worker × (H.bound shift.hints ≡ M.items) }
-            ensures { IfOk result (λ w.
-                HasWorked M.edges pool.entry.now.shared.table_id w.worker w.ran.items) }
+                HasWorked M.edges pool.now.shared.table_id shift.worker shift.ran.items ×
+                (H.bound shift.hints ≡ M.items) }
+            ensures { IfOk result (λ s.
+                HasWorked M.edges pool.entry.now.shared.table_id s.worker s.ran.items ×
+                (H.bound s.hints ≡ M.items)) }
         { work_shift(alloc, dag, pool, work, gate, shift) },
     )?;
-    Ok(results)
+    let shifts = all_well(alloc, pool, results)?;
+    Ok(shifts)
+}
+
+/// The workers that have ended, where memory was wanting for none. The contract alone asks which pool it is.
+fn all_well<E: Drop, M: Meaning<E>, H: Hints + Drop>(
+    alloc: Global,
+    _pool: &Pool<E, M>,
+    mut results: Vec<Result<Shift<E, H>, NoMemory>>,
+) -> Result<Vec<Shift<E, H>>, NoMemory>
+    requires { All (λ r. IfOk r (λ s. HasWorked M.edges _pool.now.shared.table_id s.worker s.ran.items ×
+        (H.bound s.hints ≡ M.items))) results.items }
+    ensures many { IfOk result (λ shifts. length shifts.items ≡ length results.items) }
+    ensures worked { IfOk result (λ shifts. All (λ s.
+        HasWorked M.edges _pool.now.shared.table_id s.worker s.ran.items ×
+        (H.bound s.hints ≡ M.items)) shifts.items) }
+{
+    let mut shifts = Vec::with_capacity(alloc, results.len())?;
+    while let Some(result) = results.pop() {
+        let shift = result?;
+        shifts.push(shift)?;
+    }
+    Ok(shifts)
 }
 
 /// The last pass: what it runs stands in the last list.

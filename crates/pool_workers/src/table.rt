@@ -132,7 +132,8 @@ pub(crate) fn take<E: Drop, M: Meaning<E>>(
         .compare_exchange::<Taken<M>>(worker, item as usize, 0, u64::MAX)
 }
 
-/// Puts the value of an edge into its slot, and lowers the word of what it leads to. What the word was comes back.
+/// Puts the value of an edge into its slot, and lowers the word of what it leads to. What the word was comes
+/// back.
 pub(crate) fn give<E: Drop, M: Meaning<E>>(
     pool: &Pool<E, M>,
     worker: &mut Worker<E>,

@@ -1,20 +1,19 @@
 use Rattle.std.proofs.Common.{◌≡◌, ℕ, ◌+◌, length}
-use Rattle.std.specs.Prelude.{IfOk}
 use Rattle.std.specs.List.{All}
 use Rattle.pool_workers.specs.Sums.{times, times_in}
 use Rattle.pool_workers.specs.Steps.{IsIdle}
 use Rattle.pool_workers.specs.Shifts.{HasWorked, lists}
 use Rattle.pool_workers.proofs.shift.take_in_all.Given as goal
 
-abbrev pub invariant-loop-result : goal.invariant-loop-result
-invariant-loop-result g l = record {
+abbrev pub invariant-loop-shift : goal.invariant-loop-shift
+invariant-loop-shift g l = record {
   table : l.caller.table_id ≡ l.fn.caller.table_id;
   idle : IsIdle g.M.Meaning.edges l.caller.me;
-  parts : l.caller.me.0.parts ≡ l.fn.caller.me.0.parts + length l.ran.items;
-  over : length l.ran.items + length l.results.items ≡ length l.fn.results.items;
-  worked : All (λ r. IfOk r (λ w. HasWorked g.M.Meaning.edges l.pool.shared.table_id w.worker w.ran.items)) l.results.items;
-  ran : (x : ℕ) → times_in x (lists l.ran.items) ≡ times x l.caller.me.0.took;
+  parts : l.caller.me.0.parts ≡ l.fn.caller.me.0.parts + length l.rows.items;
+  over : length l.rows.items + length l.shifts.items ≡ length l.fn.shifts.items;
+  worked : All (λ s. HasWorked g.M.Meaning.edges l.pool.shared.table_id s.worker s.ran.items × (g.H.Hints.bound s.hints ≡ g.M.Meaning.items)) l.shifts.items;
+  ran : (x : ℕ) → times_in x (lists l.rows.items) ≡ times x l.caller.me.0.took;
 }
 
-abbrev pub decreases-loop-result : goal.decreases-loop-result
-decreases-loop-result g l = length l.results.items
+abbrev pub decreases-loop-shift : goal.decreases-loop-shift
+decreases-loop-shift g l = length l.shifts.items
