@@ -1,9 +1,9 @@
 -- Why what the parties make of their shares are shares of what the calls stand for.
-use Rattle.std.proofs.Common.{◌≡◌, ℕ, zero, suc, ◌+◌, ◌*◌, ◌%◌, ◌^◌, ◌<◌, refl, sym, ap, ◌∙◌, arith}
+use Rattle.std.proofs.Common.{◌≡◌, ℕ, zero, suc, ◌+◌, ◌*◌, ◌%◌, ◌^◌, refl, sym, ap, ◌∙◌, arith}
 use Rattle.std.proofs.lemmas.Nat.{mul-mod}
 use Rattle.share_types.specs.declared.records.MultTriple.{MultTriple}
 use Rattle.share_types.specs.Sums.{word_sum, word_difference, word_product, part_of_public, sum_to}
-use Rattle.arithmetic_gmw.specs.Shares.{raised_share, opened_left, opened_right, closed_share}
+use Rattle.arithmetic_gmw.specs.Shares.{opened_left, opened_right, closed_share}
 use Rattle.arithmetic_gmw.specs.Laws.{IsTriple, AreShares, SumRecombines, DifferenceRecombines, ScaledRecombines, RaisedRecombines, ProductRecombines}
 use Rattle.arithmetic_gmw.proofs.Sums.{sum_mod, sum_plus, sum_times, sum_public, none_of_public}
 

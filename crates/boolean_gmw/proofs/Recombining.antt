@@ -1,11 +1,11 @@
 -- Why what the parties make of their shares are shares of what the calls stand for.
-use Rattle.std.proofs.Common.{◌≡◌, ℕ, zero, suc, ◌+◌, ◌*◌, ◌/◌, ◌%◌, ◌^◌, ◌<◌, refl, sym, ap, ap₂, ◌∙◌, arith}
+use Rattle.std.proofs.Common.{◌≡◌, ℕ, zero, suc, ◌+◌, ◌*◌, ◌/◌, ◌%◌, ◌^◌, ◌<◌, sym, ap, ap₂, ◌∙◌, arith}
 use Rattle.std.specs.Prelude.{bit_and, bit_xor, min}
 use Rattle.std.specs.Int.{bit_at}
 use Rattle.std.proofs.lemmas.Nat.Bits.{bit_at_xor, bit_at_and, bit_at-lt, same_from_bits}
 use Rattle.share_types.specs.Sums.{part_of_public, xor_to}
-use Rattle.boolean_gmw.specs.Shares.{Triple, flipped_share, opened_left, opened_right, closed_share}
-use Rattle.boolean_gmw.specs.Laws.{AreShares, AreBitTriples, XorRecombines, FlippedRecombines, SliceRecombines, JoinRecombines, AndRecombines}
+use Rattle.boolean_gmw.specs.Shares.{Triple, closed_share}
+use Rattle.boolean_gmw.specs.Laws.{AreBitTriples, XorRecombines, FlippedRecombines, SliceRecombines, JoinRecombines, AndRecombines}
 use Rattle.boolean_gmw.proofs.Xors.{undone, xor_plus, xor_public, xor_and, xor_slice, xor_join}
 
 pub xor-recombines : XorRecombines

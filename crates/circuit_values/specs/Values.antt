@@ -1,6 +1,6 @@
 -- The language of values: which texts read as the bits of a table's inputs, and which line of any other
 -- text shows the first fault.
-use Rattle.std.specs.Prelude.{ℕ, ◌≡◌, ◌+◌, ◌==◌, ◌^◌, Bool, ◌&&◌, ◌||◌, nat_lt, List, [], ◌∷◌, length, replicate, drop, slice_get, slice_set, Option, Some, None, Result, Ok, option_map, option_and_then, is_none, if◌then◌else◌, codes}
+use Rattle.std.specs.Prelude.{ℕ, ◌+◌, ◌^◌, Bool, ◌&&◌, ◌||◌, nat_lt, List, [], ◌∷◌, length, replicate, drop, slice_get, slice_set, Option, Some, None, Result, Ok, option_map, option_and_then, is_none, if◌then◌else◌, codes}
 use Rattle.std.specs.List.{list_all}
 use Rattle.std.specs.Option.{unwrap_or}
 use Rattle.std.specs.Str.{bytes_eq}

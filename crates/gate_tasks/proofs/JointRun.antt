@@ -8,7 +8,6 @@ use Rattle.gate_tasks.specs.Party as party
 use Rattle.gate_tasks.specs.Party.{Own, Value, Hand, word_share, vector_share, hand_at, wires_before, party_value, sends_at, gate_sends, before, silence}
 use Rattle.gate_tasks.specs.Joint.{Payloads, column, sent_by, IsJoint}
 use Rattle.gate_tasks.specs.Honest.{own_at, nobody}
-use Rattle.share_types.specs.Sums.{each}
 use Rattle.gate_tasks.proofs.Grown.{got, there_is, grown-get}
 use Rattle.gate_tasks.proofs.Sharing.{two}
 

@@ -1,7 +1,7 @@
 -- In a joint run each share of a vector is below the width of its gate, whatever the own data are. So each payload of
 -- vectors has the shape that the plan states for it.
 use Rattle.std.proofs.Common.{ℕ, zero, suc, ◌≡◌, ◌<◌, ◌+◌, ◌*◌, ◌%◌, ◌^◌, Bool, true, false, cond, List, [], ◌∷◌, ◌++◌, length, take, drop, Option, Some, None, refl, sym, ◌∙◌, ap, ap₂, subst, append-nil}
-use Rattle.std.specs.Prelude.{slice_get, get_or, option_map, nat_eq, nat_le, nat_lt, not, ◌==◌, ◌||◌, ◌&&◌, ◌/◌, bit_and, bit_xor, if◌then◌else◌}
+use Rattle.std.specs.Prelude.{slice_get, get_or, nat_eq, nat_le, nat_lt, not, ◌==◌, ◌||◌, ◌&&◌, ◌/◌, bit_and, bit_xor, if◌then◌else◌}
 use Rattle.std.specs.List.{list_any, AllByRecursion}
 use Rattle.std.specs.Option.{unwrap_or}
 use Rattle.std.proofs.Math.Nat.{mod-eq_of_lt, mod-lt}
@@ -22,13 +22,12 @@ use Rattle.plan_gates.specs.Messages.{words, vectors, messages_of, messages_at, 
 use Rattle.share_types.specs.Wires.{includes}
 use Rattle.gate_tasks.specs.Party as party
 use Rattle.gate_tasks.specs.Party.{Own, Value, Hand, vector_share, hand_at, wires_before, party_value, value_at, gate_value, sends_at, gate_sends, before, silence, opened_vector}
-use Rattle.gate_tasks.specs.Joint.{Payloads, column, sent_by, IsJoint}
-use Rattle.gate_tasks.specs.Honest.{own_at, nobody}
+use Rattle.gate_tasks.specs.Joint.{Payloads, column, IsJoint}
+use Rattle.gate_tasks.specs.Honest.{own_at}
 use Rattle.gate_tasks.specs.Laws.{PayloadsHaveTheirShapes}
 use Rattle.gate_tasks.specs.Payload.{vectors_bytes, vector_in}
 use Rattle.gate_tasks.proofs.Bytes.{fits_bytes}
 use Rattle.gate_tasks.proofs.Causal.{strong}
-use Rattle.gate_tasks.proofs.Grown.{got, there_is, grown-get}
 use Rattle.gate_tasks.proofs.Lengths.{turned}
 use Rattle.gate_tasks.proofs.Sharing.{choose, short_vector, and_small, join_small, vector_first, vector_second}
 use Rattle.gate_tasks.proofs.JointRun.{vector_is, sent, wide_is}

@@ -1,5 +1,5 @@
 -- The operands of a gate, and the records that it uses.
-use Rattle.std.proofs.Common.{ℕ, zero, suc, ◌≡◌, ◌<◌, ◌≤◌, ◌+◌, true, List, [], ◌∷◌, length, map, take, get_or, Option, Some, None, refl, sym, ◌∙◌, ap, ap₂, subst, arith}
+use Rattle.std.proofs.Common.{ℕ, zero, suc, ◌≡◌, ◌<◌, ◌≤◌, ◌+◌, true, List, [], ◌∷◌, length, map, get_or, Option, Some, None, refl, sym, ◌∙◌, ap, subst, arith}
 use Rattle.std.specs.Prelude.{option_map, slice_get, slice_index_or}
 use Rattle.std.specs.List.{AllByRecursion}
 use Rattle.std.specs.Option.{unwrap_or}
@@ -19,7 +19,7 @@ use Rattle.gate_tasks.specs.Stage.{taken_from, Serves, AreOperands, IsOf, kind_a
 use Rattle.gate_tasks.specs.ByValue.{taken_at, keeps_width, is_conjunction, is_product, words_heard, vectors_heard}
 use Rattle.gate_tasks.specs.declared.value.Value.{Value as ValueInMemory}
 use Rattle.gate_tasks.specs.declared.value.Value.TheVariants as code
-use Rattle.gate_tasks.proofs.Grown.{some_is, there_is}
+use Rattle.gate_tasks.proofs.Grown.{there_is}
 
 -- the gate of an operand
 pub record Used (plan : Gates) (u : Use) : Type 0 where

@@ -9,7 +9,6 @@ use Rattle.share_types.specs.Wires.{includes}
 use Rattle.gate_tasks.specs.Party.{Own, Value, Hand, hand_at, party_value, value_at}
 use Rattle.gate_tasks.specs.Joint.{Payloads, column, IsJoint}
 use Rattle.gate_tasks.specs.Honest.{own_at, AreHonest, AreInputs, Recombine}
-use Rattle.share_types.specs.Sums.{each}
 use Rattle.gate_tasks.specs.Laws.{EveryGateRecombines}
 use Rattle.gate_tasks.proofs.Grown.{some_is, grown-get}
 use Rattle.gate_tasks.proofs.WordsRight.{right_at, told_word}

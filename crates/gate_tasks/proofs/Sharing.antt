@@ -1,9 +1,9 @@
 -- Shares of words and of vectors, and payloads that are read back.
 use Rattle.std.proofs.Common.{ℕ, zero, suc, ◌≡◌, ◌<◌, ◌≤◌, ◌+◌, ◌*◌, ◌%◌, ◌^◌, Bool, true, false, cond, List, [], ◌∷◌, length, map, take, Some, refl, sym, ◌∙◌, ap, arith, length-take}
 use Rattle.std.specs.Prelude.{slice_get, get_or, bit_and, bit_xor}
-use Rattle.std.proofs.lemmas.Nat.{mul-mod, and_le_l, pow-add, xor_comm}
+use Rattle.std.proofs.lemmas.Nat.{and_le_l, pow-add, xor_comm}
 use Rattle.std.proofs.lemmas.Bool.{ne_eqb, lt-ltb}
-use Rattle.share_types.specs.Sums.{word_sum, word_difference, word_product, part_of_public, sum_to, xor_to, xor_total}
+use Rattle.share_types.specs.Sums.{word_difference, part_of_public, sum_to, xor_to, xor_total}
 use Rattle.plan_gates.specs.Messages.{are_two}
 use Rattle.gate_tasks.specs.Payload.{word_bytes, word_in, vectors_bytes, vector_in}
 use Rattle.std.proofs.Math.Nat.{mul-suc, mul-le-mul_left}

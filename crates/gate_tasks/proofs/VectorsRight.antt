@@ -3,7 +3,7 @@ use Rattle.std.proofs.Common.{ℕ, ◌≡◌, ◌<◌, ◌≤◌, ◌+◌, ◌*�
 use Rattle.std.specs.Prelude.{slice_get, slice_index, get_or, ◌==◌, if◌then◌else◌, nat_eq, ◌/◌, bit_and, bit_xor}
 use Rattle.std.proofs.lemmas.Bool.{eqb-true, eqb-false, eq-eqb}
 use Rattle.share_types.specs.declared.needs.Needs.{Needs}
-use Rattle.share_types.specs.Sums.{part_of_public, each, xor_to, xor_total}
+use Rattle.share_types.specs.Sums.{part_of_public, xor_to, xor_total}
 use Rattle.plan_gates.specs.Gate.{Kind, Gate, gives, width_at, InA, ConstA, AddA, SubA, AddConstA, MulConstA, MulA, OutA, InB, ConstB, XorB, XorConstB, SliceB, JoinB, AndB, OutB, Vector, vector as vector_use}
 use Rattle.plan_gates.specs.Plan.{Gates, IsPlan, IsGate, IsOperand}
 use Rattle.plan_gates.specs.Plain.{Outside, plain_before, number_at, number_of, seen_of}
@@ -23,7 +23,7 @@ use Rattle.share_types.proofs.Parties.{xor_to_same}
 use Rattle.boolean_gmw.specs.Shares.{closed_share}
 use Rattle.boolean_gmw.proofs.Xors.{undone}
 use Rattle.boolean_gmw.proofs.Recombining.{xor-recombines, flipped-recombines, slice-recombines, join-recombines, and-recombines}
-use Rattle.boolean_gmw.proofs.Xors.{one_apart as xor_apart, xor_small, xor_plus, xor_slice, xor_join, opened_xor}
+use Rattle.boolean_gmw.proofs.Xors.{one_apart as xor_apart, xor_small, opened_xor}
 use Rattle.gate_tasks.proofs.Triples.{vectors_at, triples_vector}
 use Rattle.std.specs.Int.{bit_at}
 use Rattle.dealer_files.specs.Records.{vector_of}

@@ -1,10 +1,10 @@
 -- In a joint run with honest records, the parties' words of each gate sum to its plain number.
-use Rattle.std.proofs.Common.{ℕ, ◌≡◌, ◌<◌, ◌≤◌, ◌+◌, ◌*◌, ◌%◌, ◌^◌, Bool, true, false, cond, List, [], ◌∷◌, length, map, Some, None, refl, sym, ◌∙◌, ap, ap₂, subst, arith}
+use Rattle.std.proofs.Common.{ℕ, ◌≡◌, ◌<◌, ◌≤◌, ◌+◌, ◌*◌, ◌%◌, ◌^◌, Bool, true, false, cond, List, [], ◌∷◌, length, map, Some, None, refl, sym, ◌∙◌, ap, ap₂, arith}
 use Rattle.std.specs.Prelude.{slice_get, slice_index, get_or, ◌==◌, if◌then◌else◌}
 use Rattle.std.proofs.lemmas.Bool.{eqb-true, eqb-false, eq-eqb}
 use Rattle.share_types.specs.declared.needs.Needs.{Needs}
-use Rattle.share_types.specs.Sums.{part_of_public, sum_to, total, each, Recombines}
-use Rattle.share_types.proofs.Parties.{sum_to_same, map-each, total-each, by_party-each}
+use Rattle.share_types.specs.Sums.{sum_to, total}
+use Rattle.share_types.proofs.Parties.{sum_to_same}
 use Rattle.plan_gates.specs.Gate.{Kind, Gate, Word, gives, width_at, InA, ConstA, AddA, SubA, AddConstA, MulConstA, MulA, OutA, InB, ConstB, XorB, XorConstB, SliceB, JoinB, AndB, OutB, word as word_use}
 use Rattle.plan_gates.specs.Plan.{Gates, IsPlan, IsGate, IsOperand}
 use Rattle.plan_gates.specs.Plain.{Outside, plain_before, number_at, number_of, seen_of}
@@ -16,7 +16,7 @@ use Rattle.gate_tasks.specs.Joint.{Payloads, column, IsJoint}
 use Rattle.gate_tasks.specs.Honest.{own_at, nobody, AreHonest, AreInputs}
 use Rattle.share_types.specs.declared.records.MultTriple.{MultTriple}
 use Rattle.share_types.specs.declared.needs.Kind.TheVariants.{Mult}
-use Rattle.arithmetic_gmw.specs.Shares.{closed_share, opened_left, opened_right}
+use Rattle.arithmetic_gmw.specs.Shares.{closed_share}
 use Rattle.arithmetic_gmw.proofs.Recombining.{sum-recombines, difference-recombines, scaled-recombines, raised-recombines, product-recombines}
 use Rattle.dealer_files.specs.Part.{Part}
 use Rattle.plan_gates.specs.Needs.{offset, needs_at, needs_there}

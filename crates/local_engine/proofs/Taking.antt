@@ -1,5 +1,5 @@
 -- Each gate of a plan that takes an input takes it from the input's party, within the input's width.
-use Rattle.std.proofs.Common.{◌≡◌, ℕ, zero, suc, ◌+◌, ◌%◌, ◌<◌, ◌≤◌, Bool, true, false, cond, List, [], ◌∷◌, ◌++◌, length, take, Option, Some, None, refl, sym, ap, ◌∙◌, subst, arith}
+use Rattle.std.proofs.Common.{◌≡◌, ℕ, zero, suc, ◌+◌, ◌%◌, ◌<◌, Bool, true, false, cond, List, [], ◌∷◌, ◌++◌, length, take, Option, Some, None, refl, sym, ap, ◌∙◌, subst, arith}
 use Rattle.std.specs.Prelude.{slice_get, slice_index, IsSome}
 use Rattle.std.specs.Option.{unwrap_or}
 use Rattle.std.proofs.lemmas.List.{length-append}
@@ -28,7 +28,7 @@ use Rattle.plan_gates.specs.Gate as plan
 use Rattle.plan_gates.specs.Gate.{Gate, InA, InB, gate_of}
 use Rattle.gate_plan.specs.declared.wire.Wire.{Wire}
 use Rattle.gate_plan.specs.Blocks.{Lowered, wire_among}
-use Rattle.gate_plan.specs.Lowering.{Source, block_of, block_at, source_of, is_keys, wire_handled, width_handled, all_built, lowered_to}
+use Rattle.gate_plan.specs.Lowering.{Source, block_of, block_at, source_of, is_keys, wire_handled, width_handled, lowered_to}
 use Rattle.gate_plan.specs.Bristol.{bit_gate, input_gates, kind_gates, gates_made, wired_before, output_gates}
 use Rattle.gate_plan.proofs.BuiltLemmas.{handled_own}
 use Rattle.gate_tasks.specs.Honest.{Taken, taken_by}

@@ -2,7 +2,7 @@
 use Rattle.std.proofs.Common.{ℕ, ◌≡◌, ◌+◌, Bool, true, false, cond, List, [], ◌∷◌, ◌++◌, length, map, Some, refl, sym, ◌∙◌, ap, ap₂, subst}
 use Rattle.std.specs.Prelude.{filter, slice_index}
 use Rattle.std.specs.List.{flat_map}
-use Rattle.share_types.specs.Bits.{bits, number}
+use Rattle.share_types.specs.Bits.{bits}
 use Rattle.share_types.specs.Wires.{includes}
 use Rattle.share_types.proofs.BitsLemmas.{length-bits}
 use Rattle.share_types.specs.declared.receiver.Receiver.{Receiver}

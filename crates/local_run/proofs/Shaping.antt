@@ -14,7 +14,7 @@ use Rattle.byteorder.specs.Numbers.{big_number-reads_back, length-bytes_high_fir
 use Rattle.dealer_files.proofs.Vectors.{vector-small}
 use Rattle.message_demux.specs.declared.slots.Shape.TheVariants.{Words, Vectors}
 use Rattle.message_demux.specs.Slots.{vector_bytes, vectors, overflows, has_high_bits}
-use Rattle.plan_gates.specs.Gate.{Kind, InA, ConstA, AddA, SubA, AddConstA, MulConstA, MulA, OutA, InB, ConstB, XorB, XorConstB, SliceB, JoinB, AndB, OutB}
+use Rattle.plan_gates.specs.Gate.{Kind, InA, MulA, OutA, InB, AndB, OutB}
 use Rattle.plan_gates.specs.declared.message.Message.{Message as Sent}
 use Rattle.plan_gates.specs.declared.draft.Sizes.{Sizes}
 use Rattle.plan_gates.specs.Messages.{messages_of}

@@ -1,12 +1,11 @@
 -- What edges carry is given by items of the plan.
-use Rattle.std.proofs.Common.{◌≡◌, ℕ, zero, suc, ◌-◌, ◌<◌, ◌≤◌, ◌⊎◌, Bool, true, false, cond, eqb, List, [], ◌∷◌, ◌++◌, length, take, map, Option, Some, None, refl, sym, ap, subst, arith, inl, inr, length-take}
+use Rattle.std.proofs.Common.{◌≡◌, ℕ, zero, suc, ◌-◌, ◌<◌, ◌≤◌, ◌⊎◌, Bool, true, false, cond, eqb, List, [], ◌∷◌, ◌++◌, length, map, Option, Some, None, refl, sym, ap, subst, arith, inl, inr}
 use Rattle.std.specs.Prelude.{slice_get, option_map, is_some}
 use Rattle.std.specs.List.{AllByRecursion}
-use Rattle.std.proofs.lemmas.Option.{slice_get_within}
 use Rattle.std.proofs.lemmas.List.Elements.{filter-append}
 use Rattle.share_types.specs.Sums.{each}
 use Rattle.mot_base.specs.declared.Party.{Party}
-use Rattle.plan_gates.specs.Gate.{Gate, Use, uses, operands}
+use Rattle.plan_gates.specs.Gate.{Gate, Use, uses}
 use Rattle.plan_gates.specs.Plan.{Gates, IsPlan, IsOperand}
 use Rattle.plan_gates.specs.Messages.{hears, stages, message}
 use Rattle.plan_gates.proofs.MessageLemmas.{heard_is}

@@ -12,7 +12,7 @@ use Rattle.share_types.specs.Sums.{each}
 use Rattle.message_demux.specs.Slots.{IsShapeOf, vector_bytes}
 use Rattle.mot_base.proofs.Lists.{same_some, take_next, inside_of, before_at, last_at}
 use Rattle.plan_gates.specs.declared.message.Message.{Message}
-use Rattle.plan_gates.specs.Gate.{Kind, Gate, InA, ConstA, AddA, SubA, AddConstA, MulConstA, MulA, OutA, InB, ConstB, XorB, XorConstB, SliceB, JoinB, AndB, OutB}
+use Rattle.plan_gates.specs.Gate.{Kind, Gate, InA, MulA, OutA, InB, AndB, OutB}
 use Rattle.plan_gates.specs.declared.draft.Sizes.{Sizes}
 use Rattle.plan_gates.specs.Plan.{Gates, sizes_of}
 use Rattle.plan_gates.specs.Messages.{words, vectors, messages_of, messages_at, message, are_two, hears, rounds, heard_rounds, GatesHaveOneRound}

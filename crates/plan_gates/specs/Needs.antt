@@ -1,5 +1,5 @@
 -- How many correlations each gate needs, and which records are a gate's own.
-use Rattle.std.specs.Prelude.{ℕ, zero, suc, ◌<◌, ◌≤◌, ◌+◌, List, length, slice_get, Option, Some, None}
+use Rattle.std.specs.Prelude.{ℕ, zero, suc, ◌<◌, ◌≤◌, List, length, slice_get, Option, Some, None}
 use Rattle.share_types.specs.declared.needs.Needs.{Needs}
 use Rattle.share_types.specs.declared.needs.Kind as stock
 use Rattle.share_types.specs.Needs.{count_of, no_needs, sum_of_needs}

@@ -3,7 +3,7 @@ use Rattle.std.specs.Prelude.{ℕ, ◌≡◌, ◌<◌, ◌≤◌, ◌+◌, ◌^�
 use Rattle.std.specs.List.{AllByRecursion}
 use Rattle.mot_base.specs.Limits.{least_parties, most_parties, most_width, most_gates}
 use Rattle.plan_gates.specs.declared.draft.Sizes.{Sizes}
-use Rattle.plan_gates.specs.Gate.{Kind, Gate, Given, Use, Word, SliceB, JoinB, gives, uses, operands, party_of, constant_of, width_at, low_width}
+use Rattle.plan_gates.specs.Gate.{Kind, Gate, Use, Word, SliceB, JoinB, gives, uses, operands, party_of, constant_of, width_at, low_width}
 
 -- the gates that so many parties run, of which each stands behind those whose values it uses
 pub record Gates : Type 0 where

@@ -1,7 +1,6 @@
 ghost use Rattle.std.specs.Prelude.{◌≡◌, ◌<◌, ◌≤◌, length, slice_get, option_map, Some, IfOk, IfSome, OnOk};
 ghost use Rattle.mot_base.specs.Limits.{most_gates};
 ghost use Rattle.plan_gates.specs.Gate.{gate_of, kind_of, stated_width, width_at, width_of_operand};
-
 ghost use Rattle.plan_gates.specs.Plan.{no_gates, with_gate, sizes_of};
 
 use crate::gate::GateKind;

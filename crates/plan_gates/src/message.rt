@@ -4,8 +4,8 @@ ghost use Rattle.mot_base.specs.Limits.{most_width};
 ghost use Rattle.plan_gates.specs.Gate.{kind_of, receiver_of};
 ghost use Rattle.plan_gates.specs.Messages.{words, vectors, messages_of, tells_by};
 
-use crate::gate::GateKind;
 use crate::draft::Sizes;
+use crate::gate::GateKind;
 use message_demux::Shape;
 use mot_base::Party;
 

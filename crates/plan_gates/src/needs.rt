@@ -2,8 +2,8 @@ ghost use Rattle.std.specs.Prelude.{◌≡◌};
 ghost use Rattle.plan_gates.specs.Gate.{kind_of};
 ghost use Rattle.plan_gates.specs.Needs.{needs_of};
 
-use crate::gate::GateKind;
 use crate::draft::Sizes;
+use crate::gate::GateKind;
 use share_types::Needs;
 
 /// What a gate needs.

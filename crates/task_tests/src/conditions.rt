@@ -32,7 +32,7 @@ pub(crate) fn serve(plan: &Plan, own: &Own, part: &DealerPart, gate: u32) -> boo
 /// Whether there is a multiplication triple for a product.
 fn mult_left(plan: &Plan, own: &Own, part: &DealerPart, gate: u32) -> bool
     requires { gate < length plan.now.gates }
-    ensures { result ≡ true → own.now.bases.mult + (offset plan.now.gates gate).mult + 1 ≤ length part.now.mult }
+    ensures { result ≡ true → own.now.bases.mult + (offset plan.now gate).mult + 1 ≤ length part.now.mult }
 {
     let asked = u64::from(own.bases.mult) + u64::from(plan.offset(gate).mult) + 1;
     asked <= u64::from(part.counts().mult)
@@ -41,7 +41,7 @@ fn mult_left(plan: &Plan, own: &Own, part: &DealerPart, gate: u32) -> bool
 /// Whether there are bit triples for an AND.
 fn bits_left(plan: &Plan, own: &Own, part: &DealerPart, gate: u32) -> bool
     requires { gate < length plan.now.gates }
-    ensures { result ≡ true → own.now.bases.bit + (offset plan.now.gates gate).bit + width_at plan.now.gates gate ≤ length part.now.bits }
+    ensures { result ≡ true → own.now.bases.bit + (offset plan.now gate).bit + width_at plan.now.gates gate ≤ length part.now.bits }
 {
     let asked = u64::from(own.bases.bit)
         + u64::from(plan.offset(gate).bit)

@@ -1,4 +1,4 @@
-use Rattle.std.proofs.Common.{ℕ, ◌≡◌, true, false, List, [], ◌∷◌, ◌++◌, map, filter, sym, ◌∙◌, ap, ap₂}
+use Rattle.std.proofs.Common.{ℕ, [], ◌∷◌, ◌++◌, map, filter, sym, ◌∙◌, ap, ap₂}
 use Rattle.std.specs.Prelude.{is_some}
 use Rattle.std.proofs.lemmas.List.{map-append}
 use Rattle.share_types.specs.Sums.{each}

@@ -1,7 +1,5 @@
-use Rattle.std.proofs.Common.{◌<◌, ◌≤◌, ◌+◌, ◌*◌, ℕ, length, sym, arith}
+use Rattle.std.proofs.Common.{◌<◌, ◌*◌, sym, arith}
 use Rattle.mot_base.specs.Limits.{most_width, most_gates}
-use Rattle.share_types.specs.declared.needs.Needs.{Needs}
-use Rattle.plan_gates.specs.Needs.{needs_at, offset}
 use Rattle.plan_gates.proofs.NeedsLemmas.{AreAtMost, offset-most, needs-most}
 use Rattle.plan_gates.proofs.plan.add_up.Goals as goal
 
