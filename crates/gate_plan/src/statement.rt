@@ -8,15 +8,14 @@ ghost use Rattle.share_types.specs.Wires.{width_of};
 ghost use Rattle.mixed_language.specs.Valid.{AreEarlier};
 ghost use Rattle.mixed_language.specs.Eval.{inputs_taken};
 ghost use Rattle.mixed_language.specs.Wide.{IsWide};
-ghost use Rattle.plan_gates.specs.Gate.{OutA, OutB, kind_of, stated_width};
+ghost use Rattle.plan_gates.specs.Gate.{OutA, InB, OutB, kind_of, stated_width};
 ghost use Rattle.plan_gates.specs.Plan.{with_gates};
-ghost use Rattle.gate_plan.specs.Blocks.{Lowered};
 ghost use Rattle.gate_plan.specs.Lowering.{handled_by, wire_handled, is_word, is_conversion, block_of, operand_wire, source_from};
 
 use crate::wire::{Wire, push_one, wire_among};
 use circuit_tables::Receiver;
 use mixed_language::{Form, Mixed};
-use mot_base::{MAX_WIDTH, NoMemory};
+use mot_base::{NoMemory, Party};
 use plan_gates::{Draft, GateKind};
 use share_types::{Bits, WireType};
 
@@ -130,17 +129,7 @@ pub fn push_block(
     match form {
         Form::InputA { party } => push_one(draft, GateKind::InA { party, k }, width),
         Form::InputB { party, .. } | Form::InputY { party, .. } => {
-            let at = 0;
-            push_one(
-                draft,
-                GateKind::InB {
-                    party,
-                    k,
-                    at,
-                    width,
-                },
-                width,
-            )
+            push_one(draft, input_bits(party, k, width), width)
         }
         Form::ConstA { c } => push_one(draft, GateKind::ConstA { c }, width),
         Form::ConstB { c } | Form::ConstY { c } => push_one(draft, GateKind::ConstB { c }, width),
@@ -160,12 +149,21 @@ pub fn push_block(
         }
         Form::JoinB { .. } | Form::JoinY { .. } => push_one(draft, GateKind::JoinB { x, y }, width),
         Form::Output { to, .. } => push_one(draft, output(x, to, wire), width),
-        Form::A2Y { .. }
-        | Form::A2B { .. }
-        | Form::B2Y { .. }
-        | Form::Y2B { .. }
-        | Form::B2A { .. }
-        | Form::Y2A { .. } => unreachable!(),
+        _ => unreachable!(),
+    }
+}
+
+/// The gate of an input of so many bits, which takes them all.
+fn input_bits(party: Party, k: u32, width: u8) -> GateKind
+    ensures kind { kind_of result ≡ InB party.0 k 0 }
+    ensures stated { stated_width result ≡ Some width }
+{
+    let at = 0;
+    GateKind::InB {
+        party,
+        k,
+        at,
+        width,
     }
 }
 
