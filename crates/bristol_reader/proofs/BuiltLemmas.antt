@@ -13,20 +13,7 @@ use Rattle.bristol_reader.specs.Circuit.{Gate, Circuit, is_among, is_set_by, is_
 use Rattle.bristol_reader.specs.Line.{are_outs_new}
 use Rattle.bristol_reader.specs.Marks.{is_marked, are_new_to, IsMarked}
 use Rattle.bristol_reader.specs.Built.{are_positive, FitsBehind, first_gates, IsBuilt, IsKept}
-
-pub same_some : {X : Type 0} (x y : X) → Some x ≡ Some y → x ≡ y
-same_some x y h = cc
-
--- each place of a list with one more element is one of the list, or its end
-pub pushed : {X : Type 0} (xs : List X) (x y : X) (i : ℕ) → slice_get (xs ++ x ∷ []) i ≡ Some y → (slice_get xs i ≡ Some y) ⊎ ((i ≡ length xs) × (x ≡ y))
-pushed [] x y zero h = inr (refl, cc)
-pushed [] x y (suc i) h = cc
-pushed (z ∷ xs) x y zero h = inl h
-pushed (z ∷ xs) x y (suc i) h = elim (pushed xs x y i h) [ inl p ↦ inl p | inr p ↦ inr (ap suc p.0, p.1) ]
-
-or_false : (b : Bool) → (b || false) ≡ b
-or_false true = refl
-or_false false = refl
+use Rattle.mot_base.proofs.Lists.{same_some, pushed_at as pushed, or_false}
 
 or_assoc : (a b m : Bool) → (a || (b || (m || false))) ≡ ((a || b) || m)
 or_assoc true b m = refl

@@ -20,6 +20,7 @@ use Rattle.bristol_reader.specs.Eval.{bit_at, input_bit, IsMet, AreWireBits}
 use Rattle.bristol_reader.proofs.BoolLemmas.{below_at}
 use Rattle.bristol_reader.proofs.BuiltLemmas.{parts, is_set_more}
 use Rattle.bristol_reader.proofs.MarkLemmas.{not_apart, among_more, cut_at}
+use Rattle.mot_base.proofs.Lists.{not_true}
 
 -- ---- one gate
 
@@ -87,10 +88,6 @@ earlier_differs outs i k apart before within same =
     let here : get_or (take k outs) i 0 ≡ get_or outs k 0 = get_or-take k outs i 0 before ∙ same in
     let among : is_among (take k outs) (get_or outs k 0) ≡ true = list_any_at (λ x. x == get_or outs k 0) (take k outs) i 0 (omega arith) (eq-eqb _ _ here) in
     false≢true (sym (ap are_apart (cut_at outs k within) ∙ not_apart (take k outs) (get_or outs k 0) (drop (k + 1) outs) among) ∙ apart)
-
-pub not_true : (b : Bool) → not b ≡ true → b ≡ false
-not_true true h = sym h
-not_true false h = refl
 
 in_not_out : (g : Gate) (k : ℕ) → reads_none_of g ≡ true → is_constant g.kind ≡ false → k < length g.ins → is_among g.outs (get_or g.ins k 0) ≡ false
 in_not_out g k others wires within =

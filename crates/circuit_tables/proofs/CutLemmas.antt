@@ -11,6 +11,7 @@ use Rattle.share_types.specs.Bits as vector
 use Rattle.share_types.proofs.BitsLemmas.{length-bits}
 use Rattle.circuit_tables.specs.Table.{Output, Told, is_asked, asked, joined_bits, total_width, AreCut}
 use Rattle.circuit_tables.specs.Cut.{told_first, told_next, width_next}
+use Rattle.mot_base.proofs.Lists.{cons_same as head_is}
 
 -- outputs with the bits that each gets, one after another
 abbrev pub cut_of : List Output → List Bool → List Told
@@ -36,9 +37,6 @@ cut_is_cut (o ∷ outputs) bits h =
 
 same_told : (t : Told) (o : Output) (bits : List Bool) → t.name ≡ o.name → t.to ≡ o.to → t.bits ≡ bits → t ≡ record { name = o.name; to = o.to; bits = bits }
 same_told t o bits name to is = ap (λ n. record { name = n; to = t.to; bits = t.bits }) name ∙ ap (λ r. record { name = o.name; to = r; bits = t.bits }) to ∙ ap (λ (b : List Bool). record { name = o.name; to = o.to; bits = b }) is
-
-head_is : {X : Type 0} (x y : X) (xs ys : List X) → x ∷ xs ≡ y ∷ ys → (x ≡ y) × (xs ≡ ys)
-head_is x y xs ys h = ((let e : x ≡ y = cc in e), (let e : xs ≡ ys = cc in e))
 
 pub cut_is : (outputs : List Output) (bits : List Bool) (cut : List Told) → AreCut outputs bits cut → cut ≡ cut_of outputs bits
 cut_is [] bits [] are = refl

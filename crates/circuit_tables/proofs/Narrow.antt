@@ -5,11 +5,7 @@ use Rattle.std.proofs.lemmas.Option.{slice_get-get_or, get_or_from_slice_get}
 use Rattle.mot_base.specs.declared.Party.{Party}
 use Rattle.circuit_tables.specs.Table.{Input}
 use Rattle.circuit_tables.specs.Values.{is_owned, HaveWidths}
-
-pub some_at : {X : Type 0} (xs : List X) (i : ℕ) → i < length xs → (x : X) × (slice_get xs i ≡ Some x)
-some_at [] i h = absurd (omega arith)
-some_at (x ∷ xs) zero h = (x, refl)
-some_at (x ∷ xs) (suc i) h = some_at xs i (omega arith)
+use Rattle.mot_base.proofs.Lists.{some_at}
 
 owned_narrow : (b : Bool) (width bound : ℕ) → width ≤ bound → cond b width 0 ≤ bound
 owned_narrow true width bound h = h

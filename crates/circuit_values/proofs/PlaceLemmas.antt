@@ -9,8 +9,8 @@ use Rattle.mot_base.specs.declared.Party.{Party}
 use Rattle.circuit_tables.specs.Table.{Input, AreNamedApart}
 use Rattle.circuit_values.specs.Values.{place_asked}
 use Rattle.circuit_tables.specs.Values.{is_owned}
-use Rattle.text_lines.proofs.WordLemmas.{both_true}
 use Rattle.text_lines.specs.Text.{Text}
+use Rattle.mot_base.proofs.Lists.{inside_of as within, both_true}
 
 -- the input at the place of a name
 pub record IsAskedAt (owner : Option Party) (xs : List Input) (name : Text) (at : ℕ) : Type 0 where
@@ -38,11 +38,6 @@ first_at owner x xs name at false e more h = later_at owner x xs name at (place_
 pub place_asked-at : (owner : Option Party) (xs : List Input) (name : Text) (at : ℕ) → place_asked owner xs name ≡ Some at → IsAskedAt owner xs name at
 place_asked-at owner [] name at h = cc
 place_asked-at owner (x ∷ xs) name at h = first_at owner x xs name at (is_owned owner x.party && bytes_eq x.name name) refl (place_asked-at owner xs name) h
-
-within : {X : Type 0} (xs : List X) (i : ℕ) (x : X) → slice_get xs i ≡ Some x → i < length xs
-within [] i x h = cc
-within (y ∷ xs) zero x h = omega arith
-within (y ∷ xs) (suc i) x h = let lt = within xs i x h in omega arith
 
 pub place_within : (owner : Option Party) (xs : List Input) (name : Text) (o : Option ℕ) → o ≡ place_asked owner xs name → IfSome o (λ at. at < length xs)
 place_within owner xs name None h = tt

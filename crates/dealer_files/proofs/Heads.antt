@@ -12,6 +12,7 @@ use Rattle.dealer_files.specs.Checks.{first_of, head_fault, magic_fault, version
 use Rattle.dealer_files.specs.Reading.{Passed, IsHeadOf}
 use Rattle.dealer_files.proofs.Spelled.{IsBytes, count_back}
 use Rattle.dealer_files.proofs.Pieces.{piece, one-byte}
+use Rattle.mot_base.proofs.Lists.{both_true as both-true}
 
 none-first : (x : Option DealerError) (xs : List (Option DealerError)) → first_of (x ∷ xs) ≡ None →
     (x ≡ None) × (first_of xs ≡ None)
@@ -23,10 +24,6 @@ none-checked : (short passes : Bool) (late cause : DealerError) →
 none-checked true passes late cause e = absurd cc
 none-checked false true late cause e = (refl, refl)
 none-checked false false late cause e = absurd cc
-
-both-true : (a b : Bool) → (a && b) ≡ true → (a ≡ true) × (b ≡ true)
-both-true true b e = (refl, e)
-both-true false b e = absurd cc
 
 not-short : (n ends : ℕ) → nat_lt n ends ≡ false → ends ≤ n
 not-short n ends e = grind (arith, nat_tests)

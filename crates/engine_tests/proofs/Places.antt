@@ -1,7 +1,7 @@
 -- What holds at each place of a list, and of one more at the end.
 use Rattle.std.proofs.Common.{◌≡◌, ℕ, zero, suc, List, [], ◌∷◌, ◌++◌, Some, subst}
 use Rattle.std.specs.Prelude.{slice_get}
-use Rattle.gate_tasks.proofs.Grown.{some_is}
+use Rattle.mot_base.proofs.Lists.{same_some as some_is}
 
 pub pushed : {X : Type 0} (P : X → Type 0) (xs : List X) (x : X) → ((q : ℕ) (y : X) → slice_get xs q ≡ Some y → P y) → P x → (q : ℕ) (y : X) → slice_get (xs ++ x ∷ []) q ≡ Some y → P y
 pushed P [] x all one zero y there = subst P (some_is x y there) one

@@ -19,7 +19,7 @@ use Rattle.gate_tasks.specs.Payload.{vector_in}
 use Rattle.gate_tasks.specs.Party.{Payload}
 use Rattle.gate_tasks.specs.Stage.{AreAwaited, HasShape, senders, kind_at}
 use Rattle.gate_tasks.specs.ByValue.{words_heard, vectors_heard}
-use Rattle.gate_tasks.proofs.Grown.{some_is, there_is}
+use Rattle.gate_tasks.proofs.Grown.{there_is}
 use Rattle.gate_tasks.proofs.Operands.{its_width}
 use Rattle.gate_tasks.proofs.Hearing.{first_of, message_is}
 use Rattle.std.proofs.lemmas.Bool.Decides.{nat_tests}
@@ -29,6 +29,7 @@ use Rattle.std.proofs.lemmas.Bool.{eqb-false}
 use Rattle.plan_gates.specs.Plan.{IsPlan}
 use Rattle.plan_gates.specs.Gate.{party_of}
 use Rattle.gate_tasks.proofs.Hearing.{sends, senders_one}
+use Rattle.mot_base.proofs.Lists.{not_true as not_own, same_some as some_is}
 
 pub passes : {X : Type 0} (q : X → Bool) (xs : List X) (i : ℕ) (x : X) → slice_get (filter q xs) i ≡ Some x → q x ≡ true
 passes q [] i x e = cc
@@ -167,10 +168,6 @@ input_alone plan me g kind party valid is by_owner named inside apart =
     let names : party < plan.parties =
     subst (λ o. IfSome o (λ p. p < plan.parties)) (ap party_of of ∙ named) (valid.each g gate here).party in
     senders_one plan me g gate valid here inside kind party of by_owner names (eqb-false party me apart)
-
-pub not_own : (b : Bool) → not b ≡ true → b ≡ false
-not_own true e = cc
-not_own false e = refl
 
 pub one_payload : (plan : Gates) (me g party : ℕ) (payloads : List Payload) → AreAwaited plan me g (Some 0) payloads →
     senders plan me g 0 ≡ party ∷ [] → length payloads ≡ 1

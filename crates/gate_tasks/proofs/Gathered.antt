@@ -15,12 +15,8 @@ use Rattle.message_demux.specs.Kept.{InboxContents}
 use Rattle.plan_gates.specs.Plan.{Gates}
 use Rattle.plan_gates.specs.Messages.{message}
 use Rattle.gate_tasks.specs.Task.{option_list, KeptFit, slot_from}
-use Rattle.gate_tasks.proofs.Grown.{some_is}
 use Rattle.gate_tasks.proofs.Hearing.{filter_next}
-
-nothing_more : {X : Type 0} (xs : List X) → xs ++ [] ≡ xs
-nothing_more [] = refl
-nothing_more (x ∷ xs) = ap (λ ys. x ∷ ys) (nothing_more xs)
+use Rattle.mot_base.proofs.Lists.{nothing_behind as nothing_more, mapped_none as none_of, same_some as some_is}
 
 pub none_more : {X : Type 0} (o : Option X) → is_none o ≡ true → is_some o ≡ false
 none_more None e = refl
@@ -131,10 +127,6 @@ pub neither : {X Y Z : Type 0} (f : X → Z) (h : Y → Z) (a : Option X) (b : O
 neither f h None None e = (refl, refl)
 neither f h None (Some y) e = cc
 neither f h (Some x) b e = cc
-
-pub none_of : {X Y : Type 0} (f : X → Y) (o : Option X) → option_map f o ≡ None → o ≡ None
-none_of f None e = refl
-none_of f (Some x) e = cc
 
 pub fit_more : (plan : Gates) (me : ℕ) (inbox : InboxContents) (g round n : ℕ) → KeptFit plan me inbox g round n →
     IfSome (map.get inbox.kept (slot_from g round n)) (Fits inbox.slots (slot_from g round n)) → KeptFit plan me inbox g round (n + 1)

@@ -16,9 +16,10 @@ use Rattle.plan_gates.specs.Messages.{message, are_two}
 use Rattle.gate_tasks.specs.Party.{Payload}
 use Rattle.gate_tasks.specs.Sending.{outs_by, out_by}
 use Rattle.gate_tasks.specs.declared.own.StageEnv.{StageEnv}
-use Rattle.gate_tasks.proofs.Grown.{some_is, got, total_is, grown-get}
+use Rattle.gate_tasks.proofs.Grown.{got, total_is, grown-get}
 use Rattle.arithmetic_gmw.proofs.Sums.{one_apart}
 use Rattle.gate_tasks.proofs.Hearing.{filter_next}
+use Rattle.mot_base.proofs.Lists.{same_some as some_is}
 
 -- ---- what goes to each receiver
 

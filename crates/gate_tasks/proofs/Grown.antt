@@ -5,10 +5,7 @@ use Rattle.std.specs.Option.{unwrap_or}
 use Rattle.std.proofs.lemmas.List.{length-append}
 use Rattle.std.proofs.lemmas.Bool.{cases_lt}
 use Rattle.share_types.specs.Sums.{total, sum_to}
-use Rattle.mot_base.proofs.Lists.{last_at, before_at}
-
-pub some_is : {X : Type 0} (x y : X) → Some x ≡ Some y → x ≡ y
-some_is x y e = ap (λ o. unwrap_or o x) e
+use Rattle.mot_base.proofs.Lists.{last_at, before_at, same_some as some_is}
 
 pub got : {X : Type 0} (xs : List X) (k : ℕ) (x d : X) → slice_get xs k ≡ Some x → get_or xs k d ≡ x
 got [] k x d there = cc

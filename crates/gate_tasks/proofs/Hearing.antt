@@ -19,6 +19,7 @@ use Rattle.share_types.specs.Wires.{includes}
 use Rattle.plan_gates.proofs.MessageLemmas.{any_here, any_more}
 use Rattle.gate_tasks.specs.Stage.{senders}
 use Rattle.gate_tasks.specs.ByValue.{hears_at}
+use Rattle.mot_base.proofs.Lists.{and_false}
 
 -- ---- those of the first parties that pass a test
 
@@ -162,10 +163,6 @@ pub sends_is : (plan : Gates) (from to g : ℕ) (gate : Gate) → slice_get plan
     is_some (message plan from to g 0) ≡ (are_two plan.parties from to && sends gate.kind from to)
 sends_is plan from to g gate e =
     ap is_some (message_is plan from to g gate e) ∙ kind_sends gate.kind (sizes_of plan gate) from to (are_two plan.parties from to)
-
-and_false : (b : Bool) → (b && false) ≡ false
-and_false true = refl
-and_false false = refl
 
 and_true : (b : Bool) → (b && true) ≡ b
 and_true true = refl

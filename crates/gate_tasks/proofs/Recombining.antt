@@ -10,10 +10,10 @@ use Rattle.gate_tasks.specs.Party.{Own, Value, Hand, hand_at, party_value, value
 use Rattle.gate_tasks.specs.Joint.{Payloads, column, IsJoint}
 use Rattle.gate_tasks.specs.Honest.{own_at, AreHonest, AreInputs, Recombine}
 use Rattle.gate_tasks.specs.Laws.{EveryGateRecombines}
-use Rattle.gate_tasks.proofs.Grown.{some_is, grown-get}
+use Rattle.gate_tasks.proofs.Grown.{grown-get}
 use Rattle.gate_tasks.proofs.WordsRight.{right_at, told_word}
 use Rattle.gate_tasks.proofs.VectorsRight.{as_vector, told_vector}
-use Rattle.mot_base.proofs.Lists.{inside_of}
+use Rattle.mot_base.proofs.Lists.{inside_of, same_some as some_is}
 
 module _ (plan : Gates) (owns : List Own) (bases : Needs) (session : ℕ) (outside : Outside) (table : Payloads)
     (valid : IsPlan plan) (honest : AreHonest plan owns bases session) (inputs_are : AreInputs plan owns outside.inputs) (joint : IsJoint plan owns table) where

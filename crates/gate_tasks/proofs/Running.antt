@@ -21,10 +21,10 @@ use Rattle.gate_tasks.specs.declared.value.Value.{Value as ValueInMemory}
 use Rattle.gate_tasks.specs.declared.own.StageEnv.{StageEnv}
 use Rattle.gate_tasks.specs.declared.outgoing.Out.{Out}
 use Rattle.gate_tasks.specs.declared.stage.StageOut.{StageOut}
-use Rattle.gate_tasks.proofs.Grown.{some_is}
 use Rattle.gate_tasks.proofs.Hearing.{sends, sends_is, hears_is, filter_same, filter_none}
 use Rattle.gate_tasks.proofs.Giving.{map_filtered, inside_there}
 use Rattle.gate_tasks.proofs.Staged.{Agree, value_is, formed_is, given_is}
+use Rattle.mot_base.proofs.Lists.{nothing_behind as nothing_more, both_true as both, same_some as some_is}
 
 -- ---- the one round of a gate
 
@@ -42,10 +42,6 @@ has_rounds (AndB x y) sizes = record { one = true; count = refl; none = λ e. cc
 has_rounds (OutB x to) sizes = record { one = true; count = refl; none = λ e. cc }
 has_rounds _ sizes = record { one = false; count = refl; none = λ e from to. refl }
 
-nothing_more : {X : Type 0} (xs : List X) → xs ++ [] ≡ xs
-nothing_more [] = refl
-nothing_more (x ∷ xs) = ap (λ ys. x ∷ ys) (nothing_more xs)
-
 abbrev no_payloads : List Payload
 no_payloads = []
 
@@ -55,10 +51,6 @@ no_messages = []
 if_none : (b : Bool) → is_some (if b then unwrap_or (slice_get no_messages 0) None else None) ≡ false
 if_none true = refl
 if_none false = refl
-
-both : (a b : Bool) → (a && b) ≡ true → (a ≡ true) × (b ≡ true)
-both true b e = (refl, e)
-both false b e = cc
 
 module _ (plan : Gates) (me g : ℕ) (gate : Gate) (here : slice_get plan.gates g ≡ Some gate) where
   count_is : rounds plan g ≡ cond (has_rounds gate.kind (sizes_of plan gate)).one 1 0

@@ -18,9 +18,9 @@ use Rattle.gate_tasks.specs.Task.{held_values, payloads_at, gate_lacking, slot_l
 use Rattle.gate_tasks.specs.declared.value.Value.{Value as ValueInMemory}
 use Rattle.gate_tasks.specs.declared.own.Env.{Env}
 use Rattle.gate_tasks.specs.declared.step.Need.TheVariants as need
-use Rattle.gate_tasks.proofs.Grown.{some_is}
 use Rattle.gate_tasks.proofs.Giving.{two_of}
-use Rattle.gate_tasks.proofs.Gathered.{all_found, neither, none_of}
+use Rattle.gate_tasks.proofs.Gathered.{all_found, neither}
+use Rattle.mot_base.proofs.Lists.{both_true as both, same_some as some_is, mapped_none as none_of}
 
 pub all_operands : (plan : Gates) (g : ℕ) (wires : List (Option ValueInMemory)) → HoldTypes plan g wires →
     gate_lacking wires (operands_at plan.gates g) ≡ None → AreOperands plan g (held_values wires (operands_at plan.gates g))
@@ -45,10 +45,6 @@ shape_of_fit spec m payload len shape fit = by (length payload == spec.len) refl
         let refused : unfit spec payload ≡ Some (PayloadLength (slot_of spec) spec.len (told_length payload)) =
         ap (λ b. if b then (if has_high_bits spec.shape payload then Some (HighBits (slot_of spec)) else None) else Some (PayloadLength (slot_of spec) spec.len (told_length payload))) e in
         let contrary = sym refused ∙ fit in cc
-
-both : (a b : Bool) → (a && b) ≡ true → (a ≡ true) × (b ≡ true)
-both true b e = (refl, e)
-both false b e = cc
 
 sender_inside : (plan : Gates) (me g r from : ℕ) → is_some (message plan from me g r) ≡ true → from < plan.parties
 sender_inside plan me g r from e =

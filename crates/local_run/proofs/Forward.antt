@@ -17,14 +17,15 @@ use Rattle.mot_base.specs.declared.Party.{Party}
 use Rattle.plan_gates.specs.Plan.{Gates, IsPlan}
 use Rattle.plan_gates.specs.Messages.{hears, message}
 use Rattle.gate_tasks.specs.Stage.{operands_at, senders}
-use Rattle.gate_tasks.proofs.Grown.{there_is, some_is}
+use Rattle.gate_tasks.proofs.Grown.{there_is}
 use Rattle.local_run.specs.declared.item.Item.{Item}
 use Rattle.local_run.specs.declared.item.Load.{Load}
 use Rattle.local_run.specs.declared.item.Load.TheVariants.{Wire, Message}
 use Rattle.local_run.specs.Items.{item, listeners, items_of, items_before, first_item, all_items, number_of, IsItem}
 use Rattle.local_run.specs.Loads.{party, wires_to, heard_by, loads_to, loads_at, reports_loads, giver, IsGiven, edge_to, edges_before, all_edges}
 use Rattle.local_run.proofs.Numbers.{place_of, place_found, number_within, few_items}
-use Rattle.local_run.proofs.Valid.{all_append, all_map, all_at, all_more, all_passing, Passes, operands_are_before, wire_given, item_is, reports_given}
+use Rattle.local_run.proofs.Valid.{all_map, all_at, all_passing, Passes, operands_are_before, wire_given, item_is, reports_given}
+use Rattle.mot_base.proofs.Lists.{same_some as some_is, all_append, all_implied as all_more}
 
 -- ---- each item stands at its number
 

@@ -14,7 +14,7 @@ use Rattle.plan_gates.specs.Messages.{hears, message}
 use Rattle.gate_tasks.specs.declared.stage.StageOut.{StageOut}
 use Rattle.gate_tasks.specs.Party.{Own}
 use Rattle.gate_tasks.specs.Stage.{operands_at, senders, receivers}
-use Rattle.gate_tasks.proofs.Grown.{there_is, some_is}
+use Rattle.gate_tasks.proofs.Grown.{there_is}
 use Rattle.gate_tasks.proofs.Unique.{one_joint_run}
 use Rattle.local_run.specs.declared.item.Item.{Item}
 use Rattle.local_run.specs.declared.item.Load.{Load}
@@ -24,9 +24,10 @@ use Rattle.local_run.specs.Items.{all_items, number_of, IsItem}
 use Rattle.local_run.specs.Loads.{party, wires_to, heard_by, loads_to, loads_at, told_gates, sent_at, sent_before, report_loads, reports_loads, loads_before, all_loads, all_edges, giver, IsGiven, graph_of}
 use Rattle.local_run.specs.Meaning.{IsMeantAt, edge_means, HasCargoAt, IsCargoAt, HasRun}
 use Rattle.local_run.proofs.Numbers.{item_found, number_within, few_items}
-use Rattle.local_run.proofs.Valid.{all_append, all_map, all_at, all_more, all_passing, Passes, item_is, loads_given, reports_given}
+use Rattle.local_run.proofs.Valid.{all_map, all_at, all_passing, Passes, item_is, loads_given, reports_given}
 use Rattle.local_run.proofs.Sending.{IsReal, all_trivial, has_cargo, is_meant}
 use Rattle.local_run.proofs.Ranges.{all_sources}
+use Rattle.mot_base.proofs.Lists.{same_some as some_is, all_append, all_implied as all_more}
 
 -- ---- what edges carry is given and real
 

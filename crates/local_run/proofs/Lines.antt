@@ -24,7 +24,6 @@ use Rattle.gate_tasks.specs.Party.{Own, Payload, Hand, Rounds, hand_at, word, ve
 use Rattle.gate_tasks.specs.Joint.{Payloads, column, IsJoint}
 use Rattle.gate_tasks.specs.Honest.{own_at}
 use Rattle.gate_tasks.specs.Stage.{value_of, receivers, IsOf, HasShape}
-use Rattle.gate_tasks.proofs.Grown.{some_is}
 use Rattle.local_run.specs.declared.item.Load.{Load}
 use Rattle.local_run.specs.declared.item.Load.TheVariants.{Wire, Kept, Message}
 use Rattle.local_run.specs.declared.report.PartyReport.{PartyReport}
@@ -35,9 +34,10 @@ use Rattle.local_run.specs.Loads.{tells_at, sent_at, sent_before, report_loads, 
 use Rattle.local_run.specs.Meaning.{IsFit, IsMeant, ArePairs, AreMeant, AreFit}
 use Rattle.local_run.specs.Report.{frames_before, transcript, told_to, bits_told, frame_of, frames_of, IsReport}
 use Rattle.std.proofs.lemmas.List.Elements.{All-from_recursion}
-use Rattle.local_run.proofs.Valid.{Passes, all_passing, all_more}
+use Rattle.local_run.proofs.Valid.{Passes, all_passing}
 use Rattle.local_run.proofs.Leaving.{sent_real}
 use Rattle.local_run.proofs.Sending.{IsReal}
+use Rattle.mot_base.proofs.Lists.{same_some as some_is, all_implied as all_more}
 
 -- ---- pairs
 

@@ -18,7 +18,7 @@ use Rattle.gate_tasks.specs.Joint.{Payloads, column, sent_by, IsJoint}
 use Rattle.gate_tasks.specs.Honest.{own_at, nobody}
 use Rattle.gate_tasks.specs.Laws.{length_of}
 use Rattle.gate_tasks.specs.Stage.{value_of, gate_of, out_to, outs_in, outs_of, rounds_sent, receivers, is_last, value_on, formed_before, IsOf, HasShape}
-use Rattle.gate_tasks.proofs.Grown.{there_is, some_is}
+use Rattle.gate_tasks.proofs.Grown.{there_is}
 use Rattle.gate_tasks.proofs.Lengths.{payloads_have_their_lengths}
 use Rattle.local_run.specs.declared.item.Load.{Load}
 use Rattle.local_run.specs.declared.item.Load.TheVariants.{Wire, Kept, Message}
@@ -27,7 +27,8 @@ use Rattle.local_run.specs.declared.cargo.Cargo.TheVariants as cargo
 use Rattle.local_run.specs.Loads.{giver, IsGiven}
 use Rattle.local_run.specs.Meaning.{place_in, IsMeant, IsTo, Sends, HasCargo, IsCargo, HasRun}
 use Rattle.local_run.proofs.Lists.{at_left, at_right, passing, passing_found}
-use Rattle.local_run.proofs.Valid.{all_append, all_map, all_at}
+use Rattle.local_run.proofs.Valid.{all_map, all_at}
+use Rattle.mot_base.proofs.Lists.{same_some as some_is, all_append}
 
 -- ---- all messages of a stage
 

@@ -25,7 +25,7 @@ use Rattle.gate_tasks.specs.Party.{Own, Hand, Rounds, hand, vector_share, width,
 use Rattle.gate_tasks.specs.Joint.{column}
 use Rattle.gate_tasks.specs.Honest.{own_at, nobody}
 use Rattle.gate_tasks.specs.Stage.{value_of, own_with, operands_of, operands_at, HasInput, IsOf, IsStage, Gives, Serves, AreOperands}
-use Rattle.gate_tasks.proofs.Grown.{there_is, some_is, got}
+use Rattle.gate_tasks.proofs.Grown.{there_is, got}
 use Rattle.local_run.specs.declared.item.Item.{Item}
 use Rattle.local_run.specs.declared.cargo.Cargo.{Cargo}
 use Rattle.local_run.specs.Cargo.{values_of, payloads_of, kept_after}
@@ -35,6 +35,7 @@ use Rattle.local_run.specs.Meaning.{owns_with, place_in, HasRun}
 use Rattle.local_run.proofs.Staging.{IsTaken}
 use Rattle.local_run.proofs.Sending.{sent_is}
 use Rattle.local_run.proofs.Shaping.{OperandsFit, kind_low}
+use Rattle.mot_base.proofs.Lists.{same_some as some_is}
 
 -- ---- own data
 

@@ -17,7 +17,7 @@ use Rattle.gate_tasks.specs.Party.{Own, Payload, wires_before, party_value}
 use Rattle.gate_tasks.specs.Joint.{Payloads, column, IsJoint}
 use Rattle.gate_tasks.specs.Honest.{own_at}
 use Rattle.gate_tasks.specs.Stage.{value_of, operands_at, senders, heard_in, IsStage, IsOf, HasShape, AreOperands, AreAwaited}
-use Rattle.gate_tasks.proofs.Grown.{got, grown-get, some_is}
+use Rattle.gate_tasks.proofs.Grown.{got, grown-get}
 use Rattle.local_run.specs.declared.item.Item.{Item}
 use Rattle.local_run.specs.declared.item.Load.{Load}
 use Rattle.local_run.specs.declared.item.Load.TheVariants.{Wire, Kept, Message}
@@ -29,6 +29,7 @@ use Rattle.local_run.specs.Loads as loads
 use Rattle.local_run.specs.Loads.{wires_to, heard_by, loads_to}
 use Rattle.local_run.specs.Meaning.{place_in, IsMeant, AreMeant}
 use Rattle.local_run.proofs.Valid.{operands_are_before}
+use Rattle.mot_base.proofs.Lists.{same_some as some_is}
 
 -- a party's value of a gate in a run
 abbrev value_in : Gates → List Own → Payloads → ℕ → ℕ → party.Value

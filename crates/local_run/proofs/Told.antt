@@ -11,7 +11,7 @@ use Rattle.share_types.specs.Sums.{each}
 use Rattle.share_types.specs.Bits.{bits, number}
 use Rattle.share_types.specs.declared.receiver.Receiver.{Receiver}
 use Rattle.circuit_tables.specs.Table.{Output, Told, asked, joined_bits, AreCut}
-use Rattle.mot_base.proofs.Lists.{take_next}
+use Rattle.mot_base.proofs.Lists.{take_next, length_taken}
 use Rattle.plan_gates.specs.Gate.{Gate, width_at, receiver_of}
 use Rattle.plan_gates.specs.Plan.{Gates}
 use Rattle.plan_gates.specs.Plain.{Outside, plain_before, number_at, GateTold, told_entry, told_by}
@@ -73,11 +73,6 @@ one_told plan numbers p n gate number here known =
     by : (b : Bool) → flat_map (λ g. bits (width_at plan.gates g) (slice_index numbers g)) (cond b (n ∷ []) []) ≡ cond b (bits gate.width number) []
     by true = append-nil (bits (width_at plan.gates n) (slice_index numbers n)) ∙ ap₂ bits (width_is plan.gates n gate here) (index_is numbers n number known)
     by false = refl
-
-length_taken : {X : Type 0} (xs : List X) (n : ℕ) → n ≤ length xs → length (take n xs) ≡ n
-length_taken xs zero h = refl
-length_taken [] (suc n) h = absurd (omega (arith, h))
-length_taken (x ∷ xs) (suc n) h = ap suc (length_taken xs n (omega (arith, h)))
 
 told_before : (plan : Gates) (numbers : List ℕ) (p n : ℕ) → length numbers ≡ length plan.gates → n ≤ length plan.gates →
     flat_map (λ g. bits (width_at plan.gates g) (slice_index numbers g)) (told_gates plan p n) ≡ bits_to p (told_by (take n plan.gates) (take n numbers))

@@ -14,14 +14,10 @@ use Rattle.local_run.specs.declared.item.Item.{Item}
 use Rattle.local_run.specs.declared.item.Load.TheVariants.{Wire, Message}
 use Rattle.local_run.specs.Items.{item, listeners, items_of, items_before, all_items, IsItem}
 use Rattle.local_run.specs.Loads.{party, wires_to, heard_by, loads_to, told_gates, sent_at, sent_before, report_loads, reports_loads, IsGiven}
-use Rattle.gate_tasks.proofs.Grown.{some_is}
 use Rattle.local_run.proofs.Lists.{passing}
+use Rattle.mot_base.proofs.Lists.{all_append, all_implied as all_more, same_some as some_is}
 
 -- ---- facts of all elements
-
-pub all_append : {X : Type 0} (P : X → Type 0) (xs ys : List X) → AllByRecursion P xs → AllByRecursion P ys → AllByRecursion P (xs ++ ys)
-all_append P [] ys f g = g
-all_append P (x ∷ xs) ys f g = (f.0, all_append P xs ys f.1 g)
 
 pub all_map : {X Y : Type 0} (P : Y → Type 0) (f : X → Y) (Q : X → Type 0) → ((x : X) → Q x → P (f x)) → (xs : List X) → AllByRecursion Q xs → AllByRecursion P (map f xs)
 all_map P f Q more [] all = tt
@@ -31,10 +27,6 @@ pub all_at : {X : Type 0} (P : X → Type 0) (xs : List X) (k : ℕ) (x : X) →
 all_at P [] k x all there = cc
 all_at P (y ∷ xs) zero x all there = subst P (some_is y x there) all.0
 all_at P (y ∷ xs) (suc k) x all there = all_at P xs k x all.1 there
-
-pub all_more : {X : Type 0} (P Q : X → Type 0) → ((x : X) → P x → Q x) → (xs : List X) → AllByRecursion P xs → AllByRecursion Q xs
-all_more P Q more [] all = tt
-all_more P Q more (x ∷ xs) all = (more x all.0, all_more P Q more xs all.1)
 
 -- the first numbers are below their count, and those that pass a test pass it
 pub record Passes (test : ℕ → Bool) (n p : ℕ) : Type 0 where

@@ -17,6 +17,7 @@ use Rattle.message_demux.specs.Runs.{Message, IsIn, unless_refused, after_all, I
 use Rattle.message_demux.specs.Slots.{slot_cmp, listed}
 use Rattle.message_demux.proofs.Keeping.{get_here, get_there}
 use Rattle.message_demux.proofs.Places.{slot_total, slot_same}
+use Rattle.mot_base.proofs.Lists.{neither_some as neither, same_some}
 
 -- what is known of a message that is not refused
 record IsAccepted (expected : Option SlotSpec) (payload : List ℕ) (kept : Option (List ℕ)) : Type 0 where
@@ -24,10 +25,6 @@ record IsAccepted (expected : Option SlotSpec) (payload : List ℕ) (kept : Opti
   is : expected ≡ Some spec
   fits : unfit spec payload ≡ None
   before : (kept ≡ None) ⊎ (kept ≡ Some payload)
-
-neither : {X : Type 0} (a b : Option X) → option_or a b ≡ None → (a ≡ None) × (b ≡ None)
-neither None b e = (refl, e)
-neither (Some x) b e = absurd (cc)
 
 same_bytes : (slot : Slot) (payload kept : List ℕ) → (b : Bool) → bytes_eq kept payload ≡ b → differs slot payload (Some kept) ≡ None → kept ≡ payload
 same_bytes slot payload kept true is none = (bytes_eq-Decides kept payload).0 is
@@ -48,9 +45,6 @@ not_refused (Some refused) after out e = absurd (cc)
 
 same_slot : (x y : Slot) → eq_by_cmp slot_cmp x y ≡ true → x ≡ y
 same_slot x y e = slot_same x y ((Equal-is (slot_cmp x y)).0 e)
-
-same_some : {X : Type 0} (x y : X) → Some x ≡ Some y → x ≡ y
-same_some x y e = cc
 
 same_message : (n message : Message) → n.slot ≡ message.slot → n.payload ≡ message.payload → n ≡ message
 same_message n message slot payload = λ i. record { slot = slot i; payload = payload i }

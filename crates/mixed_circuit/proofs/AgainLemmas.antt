@@ -20,9 +20,9 @@ use Rattle.mixed_circuit.specs.Written.{letter_word, slot_word, slot_words, plac
 use Rattle.text_lines.proofs.JoinedLemmas.{is_plain_word}
 use Rattle.mixed_circuit.proofs.SlotLemmas.{IsSmall, name_plain, some_named, letter_read, letter_plain, letter_stated, owner_plain, owner_stated, told_plain, told_stated, width_stated, place_stated, constant_stated}
 use Rattle.text_lines.proofs.DecimalLemmas.{decimal_plain}
-use Rattle.text_lines.proofs.WordLemmas.{both, both_true}
 use Rattle.text_lines.specs.Text.{Text}
 use Rattle.mot_base.specs.Names.{is_name}
+use Rattle.mot_base.proofs.Lists.{true_both as both, both_true}
 
 -- ---- what some slots have stated, and what is left
 

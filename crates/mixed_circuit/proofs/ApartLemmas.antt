@@ -10,8 +10,7 @@ use Rattle.mixed_language.specs.declared.language.Slot.{Slot}
 use Rattle.mixed_language.specs.declared.language.Slot.TheVariants as slot
 use Rattle.mixed_language.specs.Language.{operations, word_of, slots_of}
 use Rattle.mixed_circuit.specs.Line.{is_spelled, each_spelled, are_spelled, operation_of, OneOperation}
-use Rattle.mot_base.proofs.Lists.{same_some}
-use Rattle.text_lines.proofs.WordLemmas.{both_true}
+use Rattle.mot_base.proofs.Lists.{same_some, not_true as not_false, either_true, both_true}
 use Rattle.text_lines.specs.Text.{Text}
 
 abbrev pub is_keyword_slot : Slot → Bool
@@ -56,14 +55,6 @@ word_there zero o (s ∷ slots) (word ∷ words) count at h =
     let P : Slot → Type 0 = λ t. is_spelled o t word ≡ true in
     ap Some ((bytes_eq-Decides word (word_of o)).0 (subst P (keyword_is s at) spelled.0))
 word_there (suc k) o (s ∷ slots) (word ∷ words) count at h = word_there k o slots words (omega arith) at (both_true (is_spelled o s word) (each_spelled o slots words) h).1
-
-not_false : (b : Bool) → not b ≡ true → b ≡ false
-not_false true h = cc
-not_false false h = refl
-
-either_true : (a b : Bool) → (a || b) ≡ true → (a ≡ true) ⊎ (b ≡ true)
-either_true true b h = inl refl
-either_true false b h = inr h
 
 -- two operations that are apart have no line in common
 never_both : (a b : Operation) (words : List Text) → are_apart a b ≡ true → are_spelled a words ≡ true → are_spelled b words ≡ true → ⊥

@@ -15,8 +15,7 @@ use Rattle.mixed_circuit.specs.Line.{Parts, no_parts, is_letter_of, letter_of, i
 use Rattle.text_lines.specs.Chain.{or_cause, unless}
 use Rattle.mixed_circuit.specs.Stated.{AreWhole, IsSomeName}
 use Rattle.text_lines.proofs.ChainLemmas.{ok_then, or_some, unless_true}
-use Rattle.mot_base.proofs.Lists.{same_some}
-use Rattle.text_lines.proofs.WordLemmas.{both_true}
+use Rattle.mot_base.proofs.Lists.{same_some, either_true as or_true, both_true}
 use Rattle.text_lines.specs.Text.{Text}
 use Rattle.text_lines.specs.Word.{number_of}
 use Rattle.mot_base.specs.Names.{is_name}
@@ -57,10 +56,6 @@ pub record Grows (operation : Operation) (slots : List Slot) (from to : Parts) :
   pub constant : Field ℕ (λ n. Unit {0}) (list_any is_constant_slot slots) from.constant to.constant
   pub arity : length to.operands ≡ length from.operands + length (filter is_operand_slot slots)
   pub operands : list_all is_name from.operands ≡ true → list_all is_name to.operands ≡ true
-
-or_true : (a b : Bool) → (a || b) ≡ true → (a ≡ true) ⊎ (b ≡ true)
-or_true true b h = inl refl
-or_true false b h = inr h
 
 operand_count : (b : Bool) (s : Slot) (slots : List Slot) → length (cond b (s ∷ slots) slots) ≡ length (cond b (s ∷ []) []) + length slots
 operand_count true s slots = omega arith

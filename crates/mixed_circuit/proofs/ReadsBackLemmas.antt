@@ -22,7 +22,7 @@ use Rattle.text_lines.proofs.DecimalLemmas.{decimal_plain}
 use Rattle.mixed_circuit.proofs.SaidAgainLemmas.{SaysAgain, says_again, there_in_front}
 use Rattle.text_lines.specs.LineReader.{Lead}
 use Rattle.text_lines.specs.Text.{Text, lines}
-use Rattle.text_lines.proofs.WordLemmas.{both}
+use Rattle.mot_base.proofs.Lists.{true_both as both}
 
 -- ---- one line
 

@@ -9,7 +9,7 @@ use Rattle.std.proofs.lemmas.List.{length-map}
 use Rattle.std.proofs.lemmas.Slice.Eq.{bytes_eq-Decides}
 use Rattle.mot_base.specs.Limits.{most_parties, most_statements}
 use Rattle.mot_base.specs.Names.{is_name}
-use Rattle.mot_base.proofs.Lists.{same_some}
+use Rattle.mot_base.proofs.Lists.{same_some, implied_true as implied, true_both as both, both_true}
 use Rattle.share_types.specs.declared.sharing.Sharing.{Sharing}
 use Rattle.share_types.specs.declared.sharing.Sharing.TheVariants.{A, B, Y}
 use Rattle.share_types.specs.declared.sharing.WireType.{WireType}
@@ -25,7 +25,7 @@ use Rattle.mixed_language.proofs.CircuitLemmas.{fields}
 use Rattle.mixed_language.proofs.EarlierLemmas.{wire_there}
 use Rattle.mixed_language.proofs.NameLemmas.{named_new}
 use Rattle.mixed_language.proofs.PlaceLemmas.{place_of-named}
-use Rattle.mixed_language.proofs.RowLemmas.{row_of, each_operation, implied}
+use Rattle.mixed_language.proofs.RowLemmas.{row_of, each_operation}
 use Rattle.mixed_language.proofs.TableLemmas.{own_place}
 use Rattle.mixed_circuit.specs.Line.{Parts, letter_of, are_spelled, is_letter_of, is_party, is_new, operands_of, operand_of, sharing_given, statement_of, said}
 use Rattle.mixed_circuit.specs.Stated.{AreWhole, IsSomeName}
@@ -36,7 +36,6 @@ use Rattle.mixed_circuit.proofs.SaysLemmas.{Means, parts_again, resolved_again, 
 use Rattle.mixed_circuit.proofs.SlotLemmas.{IsSmall, keywords_plain, letter_read}
 use Rattle.mixed_circuit.proofs.AgainLemmas.{IsKnown, line_read}
 use Rattle.text_lines.proofs.JoinedLemmas.{is_plain_word}
-use Rattle.text_lines.proofs.WordLemmas.{both, both_true}
 use Rattle.text_lines.specs.Text.{Text}
 
 -- ---- what is known of a line that says a statement

@@ -20,11 +20,11 @@ use Rattle.mixed_circuit.specs.Line.{Parts, letter_of, is_letter_of, number_with
 use Rattle.mixed_circuit.specs.Stated.{IsSomeName}
 use Rattle.mixed_circuit.specs.Written.{letter_word, told_word}
 use Rattle.text_lines.proofs.DecimalLemmas.{decimal_plain, decimal_digits}
-use Rattle.text_lines.proofs.JoinedLemmas.{is_plain, is_plain_word, implied_all}
-use Rattle.text_lines.proofs.WordLemmas.{both, both_true}
+use Rattle.text_lines.proofs.JoinedLemmas.{is_plain, is_plain_word}
 use Rattle.text_lines.specs.Text.{Text}
 use Rattle.text_lines.specs.Word.{begins_hexadecimal, number_in, number_of}
 use Rattle.mot_base.specs.Names.{is_name, is_letter}
+use Rattle.mot_base.proofs.Lists.{all_pass as implied_all, true_both as both, both_true}
 
 -- ---- names
 

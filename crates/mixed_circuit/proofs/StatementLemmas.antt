@@ -4,7 +4,7 @@ use Rattle.std.specs.Prelude.{slice_get, IfSome, option_map, is_none}
 use Rattle.std.specs.List.{list_all}
 use Rattle.std.specs.Option.{unwrap_or}
 use Rattle.std.proofs.lemmas.Bool.{ltb-true, eqb-true}
-use Rattle.mot_base.proofs.Lists.{same_some}
+use Rattle.mot_base.proofs.Lists.{same_some, implied_true as implied}
 use Rattle.share_types.specs.declared.sharing.Sharing.{Sharing}
 use Rattle.share_types.specs.Wires.{sharing_of, is_shared, wire_type}
 use Rattle.mixed_language.specs.declared.language.Domain.{Domain}
@@ -13,7 +13,7 @@ use Rattle.mixed_language.specs.declared.operand.Operand.{Operand}
 use Rattle.mixed_language.specs.Language.{domain_of, is_in, gives, states, is_name_slot, is_letter_slot, arity_of}
 use Rattle.mixed_language.specs.Circuit.{Circuit, Statement, wire_at, place_of}
 use Rattle.mixed_language.specs.Valid.{IsStatement, IsNewName}
-use Rattle.mixed_language.proofs.RowLemmas.{each_operation, implied}
+use Rattle.mixed_language.proofs.RowLemmas.{each_operation}
 use Rattle.mixed_circuit.specs.Line.{Parts, operand_of, operands_of, sharing_given, is_party, is_new, said}
 use Rattle.mixed_circuit.specs.Stated.{AreWhole, IsSomeName}
 use Rattle.mixed_circuit.proofs.SaysLemmas.{SaidBy, said-by, sharing_in_domain, operands_count, then_operand}

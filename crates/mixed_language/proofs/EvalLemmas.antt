@@ -16,7 +16,7 @@ use Rattle.share_types.specs.Wires.{width_of}
 use Rattle.mixed_language.specs.Table.{inputs_of, input_entry, owner_of}
 use Rattle.mixed_language.specs.Wide.{AllWide}
 use Rattle.mixed_language.specs.Eval.{number_made, value_made, seen_of, width_given_by, value_of_statement, IsEvaluated, EvaluatesOnce, inputs_taken}
-use Rattle.mot_base.proofs.Lists.{same_some, take_next}
+use Rattle.mot_base.proofs.Lists.{same_some, take_next, last_at as last, take_whole as taken_all}
 
 pub moved : (x places : ℕ) (r : Option ℕ) → SomeIff r (places < 64) (x * 2 ^ places % 2 ^ 64) →
     unwrap_or r 0 ≡ 2 ^ places * x % 2 ^ 64
@@ -45,11 +45,6 @@ pub record EvaluatedTo (statements : List Statement) (inputs values : List ℕ) 
 
 pub none_evaluated : (ss : List Statement) (inputs : List ℕ) → EvaluatedTo ss inputs [] 0
 none_evaluated ss inputs = record { count = refl; each = λ at s h e. absurd (omega (arith, h)) }
-
--- what stands at the end, and before it
-last : {X : Type 0} (xs : List X) (x : X) → slice_get (xs ++ x ∷ []) (length xs) ≡ Some x
-last [] x = refl
-last (y ∷ ys) x = last ys x
 
 kept : {X : Type 0} (xs ys : List X) (at : ℕ) → at < length xs → slice_get (xs ++ ys) at ≡ slice_get xs at
 kept [] ys at h = absurd (omega arith)
@@ -148,12 +143,6 @@ same_to ss inputs values others first second (suc n) =
         let count = first.count in
         let other = second.count in
         slice_get_past values n (omega arith) ∙ sym (slice_get_past others n (omega arith))
-
-taken_all : {X : Type 0} (xs : List X) (n : ℕ) → length xs ≤ n → take n xs ≡ xs
-taken_all [] zero h = refl
-taken_all [] (suc n) h = refl
-taken_all (x ∷ xs) zero h = absurd (omega arith)
-taken_all (x ∷ xs) (suc n) h = ap (λ zs. x ∷ zs) (taken_all xs n (omega arith))
 
 pub evaluates_once : EvaluatesOnce
 evaluates_once ss inputs values others first second =

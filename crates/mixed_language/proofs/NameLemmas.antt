@@ -8,7 +8,8 @@ use Rattle.mixed_language.specs.Language.{gives, states, is_name_slot, is_owner_
 use Rattle.mixed_language.specs.Circuit.{Statement}
 use Rattle.mixed_language.specs.Table.{owner_of}
 use Rattle.mixed_language.specs.Valid.{IsStatement, IsNewName}
-use Rattle.mixed_language.proofs.RowLemmas.{each_operation, implied}
+use Rattle.mixed_language.proofs.RowLemmas.{each_operation}
+use Rattle.mot_base.proofs.Lists.{implied_true as implied}
 
 value_named : (b : Bool) (o : Option WireType) (w : WireType) → o ≡ cond b (Some w) None → is_some o ≡ true → b ≡ true
 value_named true o w e h = refl

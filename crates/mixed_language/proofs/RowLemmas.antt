@@ -2,7 +2,7 @@
 use Rattle.std.proofs.Common.{ℕ, zero, suc, ◌≡◌, Bool, true, false, not, ◌||◌, List, [], ◌∷◌, Some, refl, subst}
 use Rattle.std.specs.Prelude.{slice_get}
 use Rattle.std.specs.List.{list_all}
-use Rattle.mot_base.proofs.Lists.{same_some, both_true}
+use Rattle.mot_base.proofs.Lists.{same_some, both_true, implied_true as implied}
 use Rattle.mixed_language.specs.declared.language.Operation.{Operation}
 use Rattle.mixed_language.specs.declared.language.Operation.TheVariants.{InputWord, InputBits, ConstWord, ConstBits, Add, Sub, Mul, AddConst, MulConst, Xor, And, Not, Slice, Join, A2Y, A2B, B2Y, Y2B, B2A, Y2A, Output}
 use Rattle.mixed_language.specs.Language.{operations}
@@ -42,6 +42,3 @@ at_row test (x ∷ all) (suc i) o h there = at_row test all i o (both_true (test
 pub each_operation : (test : Operation → Bool) → list_all test operations ≡ true → (o : Operation) → test o ≡ true
 each_operation test h o = let row = row_of o in at_row test operations row.0 o h row.1
 
-pub implied : (a b : Bool) → (not a || b) ≡ true → a ≡ true → b ≡ true
-implied true b h e = h
-implied false b h e = cc

@@ -13,7 +13,7 @@ use Rattle.mixed_language.specs.Eval.{told_by, told_among}
 use Rattle.mixed_language.specs.Circuit.{Circuit, Statement, place_of}
 use Rattle.mixed_language.specs.Valid.{IsCircuit}
 use Rattle.mixed_language.specs.Table.{inputs_of, outputs_among, input_entry, output_entry, owner_of}
-use Rattle.mot_base.proofs.Lists.{same_some}
+use Rattle.mot_base.proofs.Lists.{same_some, true_both as both_hold}
 use Rattle.mixed_language.proofs.NameLemmas.{named_new, input_value}
 
 -- ---- what statements add to a table, one after another
@@ -55,9 +55,6 @@ later_none false (Some at) h = cc
 found_here : (b : Bool) (o : Option ℕ) → b ≡ true → cond b (Some 0) o ≡ None → ⊥
 found_here true o e h = cc
 found_here false o e h = cc
-
-both_hold : (a b : Bool) → a ≡ true → b ≡ true → (a && b) ≡ true
-both_hold a b e f = ap (λ x. x && b) e ∙ f
 
 -- a value that stands there is found by its name
 place_of-found : (before : List Statement) (p : ℕ) (s : Statement) → slice_get before p ≡ Some s → is_some s.wire ≡ true → place_of before s.name ≡ None → ⊥

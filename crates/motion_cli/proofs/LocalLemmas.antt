@@ -12,7 +12,6 @@ use Rattle.cli_words.specs.Request.{LocalRequest}
 use Rattle.share_types.specs.Bits.{bits}
 use Rattle.circuit_tables.specs.Table.{asked, joined_bits, AreCut}
 use Rattle.circuit_tables.proofs.CutLemmas.{cuts_once}
-use Rattle.circuit_tables.proofs.Narrow.{some_at}
 use Rattle.dealer_files.specs.Part.{Part}
 use Rattle.plan_gates.specs.Needs.{all_needs}
 use Rattle.gate_tasks.specs.Party as party
@@ -36,6 +35,7 @@ use Rattle.motion_cli.specs.Run.{AreRuns, AreRunsOf, IsRunOf}
 use Rattle.motion_cli.specs.Steps.{IsContent, IsUnloaded, AreContents, IsFirstUnloaded, LoadsAll}
 use Rattle.motion_cli.proofs.DealerLemmas.{take_there, one_item, same_list, which_first, one_reading, not_faulty, one_faulty}
 use Rattle.motion_cli.proofs.StepLemmas.{Agree, Fair, Refuses, carried, file_refuses, content_once, unloaded_once, not_loaded}
+use Rattle.mot_base.proofs.Lists.{some_at}
 
 -- ---- several files
 

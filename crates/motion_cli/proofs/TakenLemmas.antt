@@ -18,7 +18,6 @@ use Rattle.circuit_tables.specs.Table.{Input, Told, asked, total_width}
 use Rattle.circuit_values.specs.Values.{ReadsValues}
 use Rattle.circuit_tables.specs.Values.{HaveWidths}
 use Rattle.cli_words.specs.Request.{LocalRequest}
-use Rattle.circuit_tables.proofs.Narrow.{some_at}
 use Rattle.dealer_files.specs.Part.{Part, counts_of}
 use Rattle.dealer_files.specs.Honest.{HonestTogether}
 use Rattle.dealer_maker.specs.Draws.{parts_drawn}
@@ -52,6 +51,7 @@ use Rattle.motion_cli.specs.Parts.{dealer_seed, part_name}
 use Rattle.motion_cli.specs.Report.{PartyRun, runs_report, told_to}
 use Rattle.motion_cli.specs.Run.{AreRunsOf, AreHonestParts, AreSound, TellPlainly, owns_in}
 use Rattle.motion_cli.proofs.TellingLemmas.{plain_exists, told_widths, tells_plainly}
+use Rattle.mot_base.proofs.Lists.{some_at}
 
 pub plan_parties : (c : Circuit) → (plan_of c).parties ≡ parties_of c
 plan_parties (Mixed c) = refl

@@ -8,8 +8,8 @@ use Rattle.std.proofs.lemmas.List.Folds.{list_all-append}
 use Rattle.std.proofs.lemmas.List.Splits.{slice_split_at, slice_split_none}
 use Rattle.std.proofs.lemmas.List.Sums.{AllPass-from_list_all, position_or_len_is}
 use Rattle.std.proofs.Math.Seq.{get_or-append_seam, take-append_seam}
-use Rattle.text_lines.proofs.WordLemmas.{both, both_true}
 use Rattle.text_lines.specs.Text.{Text, is_empty, is_line_end, is_blank, is_allowed, without_last_end, lines, without_comment, words, line_words}
+use Rattle.mot_base.proofs.Lists.{all_pass as implied_all, true_both as both, both_true}
 
 -- ---- bytes
 
@@ -39,13 +39,6 @@ inner_no_end b h = grind (arith, nat_tests)
 
 inner_allowed : (b : ℕ) → is_inner b ≡ true → is_allowed b ≡ true
 inner_allowed b h = grind (arith, nat_tests)
-
--- bytes that pass a test pass one that it implies
-pub implied_all : {X : Type 0} (p q : X → Bool) → ((x : X) → q x ≡ true → p x ≡ true) → (xs : List X) →
-    list_all q xs ≡ true → list_all p xs ≡ true
-implied_all p q h [] e = refl
-implied_all p q h (x ∷ xs) e = let tests = both_true (q x) (list_all q xs) e in
-    both _ _ (h x tests.0) (implied_all p q h xs tests.1)
 
 none_pass : (p q : ℕ → Bool) → ((b : ℕ) → q b ≡ true → p b ≡ false) → (text : Text) → list_all q text ≡ true →
     All (λ b. p b ≡ false) text

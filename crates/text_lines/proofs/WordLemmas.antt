@@ -13,13 +13,7 @@ use Rattle.std.proofs.lemmas.Str.Parse.{without_leading_plus_none}
 use Rattle.text_lines.specs.Text.{Text, is_empty}
 use Rattle.text_lines.specs.Word.{are_digits, number_in}
 use Rattle.mot_base.specs.Names.{is_name, is_letter}
-
-pub both : (a b : Bool) → a ≡ true → b ≡ true → (a && b) ≡ true
-both a b e f = ap (λ x. x && b) e ∙ f
-
-pub both_true : (a b : Bool) → (a && b) ≡ true → (a ≡ true) × (b ≡ true)
-both_true true b h = (refl, h)
-both_true false b h = cc
+use Rattle.mot_base.proofs.Lists.{true_both as both, both_true}
 
 digit_below : (c base : ℕ) → is_digit c base ≡ true → digit_value c < base
 digit_below c base h = grind (arith, nat_tests)

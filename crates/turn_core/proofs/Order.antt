@@ -9,6 +9,7 @@ use Rattle.turn_core.specs.Graph.{Graph, IsSound, source, target}
 use Rattle.turn_core.specs.Core.{Flags, IsIn, IsOut, with_one, Core, Event, Arrives, HandsOut, Leaves, IsReady, May, after, after_all, at_start, IsRun, IsCore}
 use Rattle.turn_core.specs.Runs.{hands_out, marks, IsHandedOutIn, RunsKeepOrder}
 use Rattle.turn_core.proofs.Events.{in-lt, none_in, run-split, graph-all, stays, stays-all, starts}
+use Rattle.mot_base.proofs.Lists.{or_false as or-last}
 
 -- a flag as a number
 abbrev pub flag : Flags → ℕ → ℕ
@@ -68,10 +69,6 @@ or-swap true true c = refl
 or-swap true false c = refl
 or-swap false true c = refl
 or-swap false false c = refl
-
-or-last : (b : Bool) → (b || false) ≡ b
-or-last true = refl
-or-last false = refl
 
 handed-one : (c : Core) (x : Event) (k : ℕ) → IsCore c → May c x → get_or (after c x).handed k false ≡ (hands_out k x || get_or c.handed k false)
 handed-one c (Arrives e) k core may = refl

@@ -11,6 +11,7 @@ use Rattle.turn_core.specs.Core.{Flags, IsIn, IsOut, with_one, Core, Arrives, Ha
 use Rattle.turn_core.specs.Counters.{unmarked, is_waiting, IsQueued, IsTied}
 use Rattle.turn_core.proofs.Events.{in-with_one, with_one-cases, stays}
 use Rattle.turn_core.proofs.Counts.{one_if, unmarked-same, unmarked-other, unmarked-none, unmarked-all}
+use Rattle.mot_base.proofs.Lists.{not_true as is_down}
 
 -- ---- a mark
 
@@ -225,11 +226,6 @@ marks-ready c missing queue len e t holds none =
     }
 
 -- ---- a handing out
-
--- a flag that is not up
-pub is_down : (b : Bool) → not b ≡ true → b ≡ false
-is_down true up = absurd (false≢true up)
-is_down false up = refl
 
 -- an item whose counter is 0 and that was not handed out may be
 pub is_ready : (c : Core) (missing queue : List ℕ) (len k : ℕ) → IsTied c missing queue len → k < c.graph.items → get_or missing k 0 ≡ 0 → IsOut c.handed k → IsReady c k

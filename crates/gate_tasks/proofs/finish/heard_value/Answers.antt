@@ -7,8 +7,9 @@ use Rattle.gate_tasks.specs.Party.{Payload, WordShare, VectorShare, kept_word, k
 use Rattle.gate_tasks.specs.Payload.{word_in, vector_in}
 use Rattle.gate_tasks.specs.ByValue.{keeps_width, hears_at, stand, kind_in, gives_of, IsGiven, value_of_stage}
 use Rattle.gate_tasks.proofs.Operands.{wide_at, its_width, word_width}
-use Rattle.gate_tasks.proofs.Fitting.{words_inside, vectors_inside, vectors_small, input_alone, not_own, one_payload, first_is}
+use Rattle.gate_tasks.proofs.Fitting.{words_inside, vectors_inside, vectors_small, input_alone, one_payload, first_is}
 use Rattle.gate_tasks.proofs.finish.heard_value.Goals as goal
+use Rattle.mot_base.proofs.Lists.{not_true as not_own}
 
 pub bounds-payloads-0 : goal.bounds-payloads-0
 bounds-payloads-0 c =

@@ -2,8 +2,9 @@ use Rattle.std.proofs.Common.{◌≡◌, ◌<◌, false, length, get_or, sym, �
 use Rattle.std.proofs.lemmas.List.{get_or_read}
 use Rattle.turn_core.specs.declared.turns.Turns.TheInside.{Inside}
 use Rattle.turn_core.specs.Core.{Core, IsOut, IsReady}
-use Rattle.turn_core.proofs.Ties.{is_down, is_ready}
+use Rattle.turn_core.proofs.Ties.{is_ready}
 use Rattle.turn_core.proofs.turns.Turns.is_free.Goals as goal
+use Rattle.mot_base.proofs.Lists.{not_true as is_down}
 
 -- the state that the fields hold
 abbrev state : Inside → Core
