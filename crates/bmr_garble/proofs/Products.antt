@@ -15,6 +15,7 @@ use Rattle.bmr_keys.proofs.Sums.{xor-both, xor-public}
 use Rattle.bmr_keys.proofs.Masks.{xor-numbers, fresh-mask, flip-recombines}
 use Rattle.bmr_garble.specs.Product.{no_key_bit, key_bit_at, product_times, AreShares}
 use Rattle.bmr_garble.specs.Laws.{ProductRecombines, ProductTimesRecombine}
+use Rattle.mot_base.proofs.Lists.{and_false as none}
 
 -- AND with a number goes over XOR
 over : (d x y : Bool) → (d && differ x y) ≡ differ (d && x) (d && y)
@@ -25,10 +26,6 @@ and-xor : (d x y : ℕ) → bit_and d (x ⊕ y) ≡ bit_and d x ⊕ bit_and d y
 and-xor d x y = same-bits _ _ (λ i.
     bit-and d (x ⊕ y) i ∙ (ap (λ b. bit d i && b) (bit-xor x y i) ∙ (over (bit d i) (bit x i) (bit y i)
     ∙ (ap₂ differ (sym (bit-and d x i)) (sym (bit-and d y i)) ∙ sym (bit-xor (bit_and d x) (bit_and d y) i)))))
-
-none : (d : Bool) → (d && false) ≡ false
-none true = refl
-none false = refl
 
 and-zero : (d : ℕ) → bit_and d 0 ≡ 0
 and-zero d = same-bits _ _ (λ i.

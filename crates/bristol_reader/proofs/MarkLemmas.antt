@@ -7,13 +7,7 @@ use Rattle.std.proofs.lemmas.List.{take_more, length-set, get_or-set_same, get_o
 use Rattle.std.proofs.lemmas.List.Folds.{list_all-append, list_any-append, list_all_at}
 use Rattle.bristol_reader.specs.Circuit.{is_among, are_apart}
 use Rattle.bristol_reader.specs.Marks.{is_marked, are_new_to, IsMarked}
-use Rattle.mot_base.proofs.Lists.{or_false}
-
-pub same_sym : (x w : ℕ) → (x == w) ≡ (w == x)
-same_sym x w = elim (cases_eq x w) [
-  | inl e ↦ eq-eqb x w e ∙ sym (eq-eqb w x (sym e))
-  | inr ne ↦ ne_eqb x w ne ∙ sym (ne_eqb w x (λ e. ne (sym e)))
-]
+use Rattle.mot_base.proofs.Lists.{or_false, equal_turned as same_sym}
 
 apart_bits : (a b p q : Bool) → (not (a || (p || false)) && (b && not q)) ≡ ((not a && b) && not (p || q))
 apart_bits true b p q = refl

@@ -24,13 +24,12 @@ use Rattle.bristol_reader.specs.Grammar.{circuits, sizes_in, sizes_said, widths_
 use Rattle.bristol_reader.specs.Written.{sizes_words, widths_words, gate_words, all_words, canonical}
 use Rattle.bristol_reader.proofs.DecimalLemmas.{are_kept, decimals_plain, decimals_read}
 use Rattle.bristol_reader.proofs.BuiltLemmas.{parts}
-use Rattle.bristol_reader.proofs.MarkLemmas.{same_sym}
 use Rattle.bristol_reader.proofs.WidthLemmas.{few_values}
 use Rattle.bristol_reader.proofs.ReadLemmas.{known, behind_known}
 use Rattle.text_lines.specs.LineReader.{Lead}
 use Rattle.text_lines.specs.Text.{Text, lines}
 use Rattle.text_lines.proofs.JoinedLemmas.{is_plain_word, is_inner, ended as ended_lines, joined_inner, joined_allowed, words_joined, lines_ended}
-use Rattle.mot_base.proofs.Lists.{not_true}
+use Rattle.mot_base.proofs.Lists.{not_true, equal_turned as same_sym}
 
 -- ---- numbers of a circuit
 

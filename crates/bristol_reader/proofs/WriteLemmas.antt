@@ -14,6 +14,7 @@ use Rattle.bristol_reader.specs.Stored.{a_gate}
 use Rattle.bristol_reader.specs.Written.{line_of, sizes_words, widths_words, gate_words, canonical, spaced}
 use Rattle.bristol_reader.proofs.EvalLemmas.{gate_parts}
 use Rattle.text_lines.specs.Text.{Text}
+use Rattle.mot_base.proofs.Lists.{take_next}
 
 pub on_ok : {E : Type 0} {A B : Type 0} (r : Result (Unit {0}) E) → (A → B) → OnOk r A → OnOk r B
 on_ok (Ok u) f h = f h
@@ -83,9 +84,6 @@ headers c = line_of (sizes_words c) ++ line_of (widths_words c.inputs) ++ line_o
 -- how far a text is written
 abbrev pub WrittenTo : Circuit → Text → ℕ → Type 0
 WrittenTo c text at = text ≡ headers c ++ flat_map (λ g. line_of (gate_words g)) (take at c.gates)
-
-take_next : {X : Type 0} (xs : List X) (k : ℕ) (x : X) → slice_get xs k ≡ Some x → take (k + 1) xs ≡ take k xs ++ x ∷ []
-take_next xs k x h = take_more xs k x (slice_get_within xs k x h) ∙ ap (λ y. take k xs ++ y ∷ []) (get_or_from_slice_get xs k x x h)
 
 written_some : (c : Circuit) (text after : Text) (at : ℕ) (o : Option Gate) → slice_get c.gates at ≡ o → at < length c.gates → WrittenTo c text at → IfSome o (λ g. after ≡ text ++ line_of (gate_words g)) → WrittenTo c after (at + 1)
 written_some c text after at None there within to added =

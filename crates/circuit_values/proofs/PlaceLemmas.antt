@@ -10,7 +10,7 @@ use Rattle.circuit_tables.specs.Table.{Input, AreNamedApart}
 use Rattle.circuit_values.specs.Values.{place_asked}
 use Rattle.circuit_tables.specs.Values.{is_owned}
 use Rattle.text_lines.specs.Text.{Text}
-use Rattle.mot_base.proofs.Lists.{inside_of as within, both_true}
+use Rattle.mot_base.proofs.Lists.{inside_of as within, both_true, taken_at, take_next}
 
 -- the input at the place of a name
 pub record IsAskedAt (owner : Option Party) (xs : List Input) (name : Text) (at : ℕ) : Type 0 where
@@ -74,12 +74,6 @@ none_of : (o : Option ℕ) → ((at : ℕ) → o ≡ Some at → ⊥) → o ≡ 
 none_of None never = refl
 none_of (Some at) never = absurd (never at refl)
 
-taken_at : {X : Type 0} (xs : List X) (k i : ℕ) (x : X) → slice_get (take k xs) i ≡ Some x → (i < k) × (slice_get xs i ≡ Some x)
-taken_at xs zero i x h = cc
-taken_at [] (suc k) i x h = cc
-taken_at (y ∷ xs) (suc k) zero x h = (omega arith, h)
-taken_at (y ∷ xs) (suc k) (suc i) x h = let r = taken_at xs k i x h in (let lt : i < k = r.0 in omega arith, r.1)
-
 -- an input's name is new among those before it
 pub new_name : (owner : Option Party) (xs : List Input) (at : ℕ) (x : Input) → AreNamedApart xs → slice_get xs at ≡ Some x → place_asked owner (take at xs) x.name ≡ None
 new_name owner xs at x apart h = none_of _ (λ i e.
@@ -93,9 +87,6 @@ take_suc : {X : Type 0} (xs : List X) (k : ℕ) (x : X) → slice_get xs k ≡ S
 take_suc [] k x h = cc
 take_suc (y ∷ xs) zero x h = let same : y ≡ x = cc in ap (λ z. z ∷ []) same
 take_suc (y ∷ xs) (suc k) x h = ap (λ zs. y ∷ zs) (take_suc xs k x h)
-
-pub take_next : {X : Type 0} (xs : List X) (k : ℕ) (x : X) → slice_get xs k ≡ Some x → take (k + 1) xs ≡ take k xs ++ x ∷ []
-take_next xs k x h = let e : k + 1 ≡ suc k = omega arith in ap (λ n. take n xs) e ∙ take_suc xs k x h
 
 -- an input by what getters tell of it
 told_input : (o : Option Input) (party : Party) (name : Text) → option_map (λ (x : Input). x.party) o ≡ Some party → option_map (λ (x : Input). x.name) o ≡ Some name → (x : Input) × (o ≡ Some x) × (x.party ≡ party) × (x.name ≡ name)

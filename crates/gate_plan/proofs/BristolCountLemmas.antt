@@ -9,8 +9,7 @@ use Rattle.bristol_reader.specs.declared.kind.BristolKind.{BristolKind}
 use Rattle.bristol_reader.specs.Circuit.{Gate, Circuit, is_among, are_apart}
 use Rattle.bristol_reader.specs.Line.{input_bound}
 use Rattle.bristol_reader.specs.Built.{IsCircuit}
-use Rattle.mot_base.proofs.Lists.{not_true}
-use Rattle.bristol_reader.proofs.MarkLemmas.{same_sym}
+use Rattle.mot_base.proofs.Lists.{not_true, equal_turned as same_sym}
 use Rattle.gate_plan.specs.Bristol.{gates_of_kind, gates_of_gate}
 
 others : (ws : List ℕ) (w : ℕ) → is_among ws w ≡ false → AllByRecursion (λ v. (w == v) ≡ false) ws

@@ -32,7 +32,8 @@ use Rattle.plan_gates.proofs.NeedsLemmas.{slice_get-each}
 use Rattle.gate_plan.specs.declared.wire.Wire.{Wire}
 use Rattle.gate_plan.specs.Blocks.{Lowered, wire_among, Stand, AreNumbers}
 use Rattle.gate_plan.specs.Bristol.{all_bristol_gates, bit_gate, input_gates, kind_gates, output_wire, gates_made, wires_made, wired_before, output_gates, bristol_lowered, told_bits, KeepsBristol}
-use Rattle.gate_plan.proofs.NumberLemmas.{length_plain, plans_have_numbers, told_from, told_by_place, told_append, IsSilent, told_nothing}
+use Rattle.plan_gates.proofs.PlainLemmas.{length_plain}
+use Rattle.gate_plan.proofs.NumberLemmas.{plans_have_numbers, told_from, told_by_place, told_append, IsSilent, told_nothing}
 use Rattle.gate_plan.proofs.BristolBitLemmas.{IsBit}
 use Rattle.gate_plan.proofs.BristolPlanLemmas.{bits_wired, wired_kept, out_wire, earlier_wire, input_own}
 use Rattle.gate_plan.proofs.BristolValidLemmas.{constant_small, output_at, bristol_is_plan}

@@ -33,7 +33,8 @@ use Rattle.gate_plan.specs.Blocks.{Lowered, AreNumbers}
 use Rattle.gate_plan.specs.Lowering.{block_of, lowered_to, lowered, operand_wire, wires_of, all_built, all_gates, wire_handled, width_handled, is_keys}
 use Rattle.gate_plan.specs.Keeps.{unnamed, KeepsValues, KeepsEvaluation}
 use Rattle.gate_plan.proofs.StandLemmas.{value_width}
-use Rattle.gate_plan.proofs.NumberLemmas.{length_plain, plans_have_numbers, told_from, told_by_place, told_append, told_nothing}
+use Rattle.plan_gates.proofs.PlainLemmas.{length_plain}
+use Rattle.gate_plan.proofs.NumberLemmas.{plans_have_numbers, told_from, told_by_place, told_append, told_nothing}
 use Rattle.gate_plan.proofs.OperationLemmas.{Named, Names, Tells, named, block_silent, Alike, law}
 use Rattle.gate_plan.proofs.BuiltLemmas.{built_at, handles_no_keys, handled_own, statement_of}
 use Rattle.gate_plan.proofs.PlanLemmas.{start, source, block, next, stands, wire_in}

@@ -9,18 +9,10 @@ use Rattle.mot_base.proofs.Lists.{mapped_some, index_at, inside_of, before_at, l
 use Rattle.plan_gates.specs.Gate.{Gate, Use, uses, operands, receiver_of, low_width}
 use Rattle.plan_gates.specs.Plan.{Gates, IsOperand, IsPlan}
 use Rattle.plan_gates.specs.Plain.{Outside, operand_number, number_of, number_at, plain_before, plain_numbers, GateTold, told_entry, told_by}
+use Rattle.plan_gates.proofs.PlainLemmas.{length_plain}
 use Rattle.gate_plan.specs.Blocks.{AreNumbers}
 
 -- ---- numbers by their places
-
-pub length_plain : (gates : List Gate) (outside : Outside) (n : ℕ) →
-    length (plain_before gates outside n) ≡ n
-length_plain gates outside zero = refl
-length_plain gates outside (suc n) =
-    let before = length_plain gates outside n in
-    length-append (plain_before gates outside n)
-    (number_at gates outside (plain_before gates outside n) (slice_get gates n) ∷ [])
-    ∙ omega arith
 
 module _ (gates : List Gate) (outside : Outside) where
   -- the number of the gate at a place, from those of the gates before it
@@ -65,11 +57,25 @@ pub plans_have_numbers : (plan : Gates) (outside : Outside) → IsPlan plan → 
 plans_have_numbers plan outside valid g gate there =
     plain_at plan.gates outside (length plan.gates) g within
     ∙ (ap (λ o. Some (number_at plan.gates outside (plain_before plan.gates outside g) o)) there
-    ∙ ap₂ (λ (x y : ℕ). Some
-    (number_of gate.kind
-    (record { outside = outside; x = x; y = y; low = low_width plan.gates gate.kind }) % 2 ^ gate.width))
-    (operand 0 (slice_get (operands gate.kind) 0) refl) (operand 1 (slice_get (operands gate.kind) 1) refl))
+    ∙ (ap₂ (λ x y. made x y (first 2)) (operand 0 (slice_get (operands gate.kind) 0) refl)
+    (operand 1 (slice_get (operands gate.kind) 1) refl)
+    ∙ ap (made (whole 0) (whole 1)) (operand 2 (slice_get (operands gate.kind) 2) refl)))
   where
+    made : ℕ → ℕ → ℕ → Option ℕ
+    made x y z = Some (number_of gate.kind (record {
+      outside = outside;
+      x = x;
+      y = y;
+      z = z;
+      low = low_width plan.gates gate.kind;
+    }) % 2 ^ gate.width)
+
+    first : ℕ → ℕ
+    first k = operand_number (plain_before plan.gates outside g) (slice_get (operands gate.kind) k)
+
+    whole : ℕ → ℕ
+    whole k = operand_number (plain_numbers plan outside) (slice_get (operands gate.kind) k)
+
     within : g < length plan.gates
     within = inside_of plan.gates g gate there
 

@@ -19,7 +19,7 @@ use Rattle.gate_tasks.specs.declared.own.StageEnv.{StageEnv}
 use Rattle.gate_tasks.proofs.Grown.{got, total_is, grown-get}
 use Rattle.arithmetic_gmw.proofs.Sums.{one_apart}
 use Rattle.gate_tasks.proofs.Hearing.{filter_next}
-use Rattle.mot_base.proofs.Lists.{same_some as some_is}
+use Rattle.mot_base.proofs.Lists.{same_some as some_is, some_at as inside_there}
 
 -- ---- what goes to each receiver
 
@@ -110,11 +110,6 @@ pub field_at : {X : Type 0} (g : X → ℕ) (xs : List X) (n : ℕ) (f : ℕ →
     slice_get xs i ≡ Some x → g x ≡ f i
 field_at g xs n f i x e h found =
     some_is (g x) (f i) (sym (mapped_at g xs i x found) ∙ (ap (λ ys. slice_get ys i) e ∙ each_at n f i h))
-
-pub inside_there : {X : Type 0} (xs : List X) (k : ℕ) → k < length xs → (x : X) × (slice_get xs k ≡ Some x)
-inside_there [] k h = absurd (omega (arith, h))
-inside_there (x ∷ xs) zero h = (x, refl)
-inside_there (x ∷ xs) (suc k) h = inside_there xs k (omega (arith, h))
 
 -- the low bits of a share word
 pub low_at : (w : ℕ) (seed : List ℕ) (session gate to : ℕ) → to < most_parties →

@@ -5,17 +5,12 @@ use Rattle.std.specs.Option.{unwrap_or}
 use Rattle.std.proofs.lemmas.List.{length-append}
 use Rattle.std.proofs.lemmas.Bool.{cases_lt}
 use Rattle.share_types.specs.Sums.{total, sum_to}
-use Rattle.mot_base.proofs.Lists.{last_at, before_at, same_some as some_is}
+use Rattle.mot_base.proofs.Lists.{last_at, before_at, same_some as some_is, index_at as got_index}
 
 pub got : {X : Type 0} (xs : List X) (k : ℕ) (x d : X) → slice_get xs k ≡ Some x → get_or xs k d ≡ x
 got [] k x d there = cc
 got (y ∷ xs) zero x d there = some_is y x there
 got (y ∷ xs) (suc k) x d there = got xs k x d there
-
-pub got_index : (xs : List ℕ) (k x : ℕ) → slice_get xs k ≡ Some x → slice_index xs k ≡ x
-got_index [] k x there = cc
-got_index (y ∷ xs) zero x there = some_is y x there
-got_index (y ∷ xs) (suc k) x there = got_index xs k x there
 
 pub there_is : {X : Type 0} (xs : List X) (k : ℕ) (d : X) → k < length xs → slice_get xs k ≡ Some (get_or xs k d)
 there_is [] k d h = absurd (omega (arith, h))

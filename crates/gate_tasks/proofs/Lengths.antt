@@ -18,6 +18,7 @@ use Rattle.gate_tasks.specs.Honest.{nobody}
 use Rattle.gate_tasks.specs.Joint.{Payloads, column, sent_by, IsJoint}
 use Rattle.gate_tasks.specs.Laws.{length_of, PayloadsHaveTheirLengths}
 use Rattle.gate_tasks.proofs.Grown.{there_is}
+use Rattle.mot_base.proofs.Lists.{equal_turned as turned}
 
 words-length : (ws : List ℕ) → length (word_bytes ws) ≡ 8 * length ws
 words-length [] = refl
@@ -35,13 +36,6 @@ vectors-length w (x ∷ vs) =
   where
     more : (a b : ℕ) → b + a * b ≡ suc a * b
     more a b = omega arith
-
-pub turned : (a b : ℕ) → (a == b) ≡ (b == a)
-turned a b = at (a == b) refl
-  where
-    at : (c : Bool) → (a == b) ≡ c → (a == b) ≡ (b == a)
-    at true e = e ∙ sym (eq-eqb b a (sym (eqb-true a b e)))
-    at false e = e ∙ sym (ne_eqb b a (λ same. eqb-false a b e (sym same)))
 
 -- a payload that is sent if something holds, and the message that is stated if it does
 chosen : (b : Bool) (bytes : List ℕ) (w count : ℕ) → length bytes ≡ count * vector_bytes w →

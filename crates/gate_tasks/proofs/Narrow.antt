@@ -28,11 +28,11 @@ use Rattle.gate_tasks.specs.Laws.{PayloadsHaveTheirShapes}
 use Rattle.gate_tasks.specs.Payload.{vectors_bytes, vector_in}
 use Rattle.gate_tasks.proofs.Bytes.{fits_bytes}
 use Rattle.gate_tasks.proofs.Causal.{strong}
-use Rattle.gate_tasks.proofs.Lengths.{turned}
 use Rattle.gate_tasks.proofs.Sharing.{choose, short_vector, and_small, join_small, vector_first, vector_second}
 use Rattle.gate_tasks.proofs.JointRun.{vector_is, sent, wide_is}
 use Rattle.boolean_gmw.specs.Shares.{closed_share}
 use Rattle.boolean_gmw.proofs.Xors.{xor_small}
+use Rattle.mot_base.proofs.Lists.{equal_turned as turned}
 
 -- ---- the bytes of narrow vectors
 

@@ -22,9 +22,9 @@ use Rattle.gate_tasks.specs.declared.own.StageEnv.{StageEnv}
 use Rattle.gate_tasks.specs.declared.outgoing.Out.{Out}
 use Rattle.gate_tasks.specs.declared.stage.StageOut.{StageOut}
 use Rattle.gate_tasks.proofs.Hearing.{sends, sends_is, hears_is, filter_same, filter_none}
-use Rattle.gate_tasks.proofs.Giving.{map_filtered, inside_there}
+use Rattle.gate_tasks.proofs.Giving.{map_filtered}
 use Rattle.gate_tasks.proofs.Staged.{Agree, value_is, formed_is, given_is}
-use Rattle.mot_base.proofs.Lists.{nothing_behind as nothing_more, both_true as both, same_some as some_is}
+use Rattle.mot_base.proofs.Lists.{nothing_behind as nothing_more, both_true as both, same_some as some_is, some_at as inside_there}
 
 -- ---- the one round of a gate
 

@@ -14,6 +14,7 @@ use Rattle.dealer_files.specs.Records.{vector_of}
 use Rattle.dealer_files.proofs.Vectors.{vector-small}
 use Rattle.gate_tasks.proofs.Bytes.{payloads_read_back}
 use Rattle.arithmetic_gmw.proofs.Sums.{sum_public}
+use Rattle.mot_base.proofs.Lists.{inside_of as found_inside}
 
 pub two : (n p q : ℕ) → p < n → q < n → (p ≡ q → ⊥) → are_two n p q ≡ true
 two n p q a b apart = rw (lt-ltb p n a, lt-ltb q n b, ne_eqb p q apart) refl
@@ -26,11 +27,6 @@ word_second x y ws = payloads_read_back.0 (x ∷ y ∷ ws) 1 y refl
 
 pub back : (x y : ℕ) → (word_difference x y + y) % 2 ^ 64 ≡ x % 2 ^ 64
 back x y = omega arith
-
-pub found_inside : {X : Type 0} (xs : List X) (k : ℕ) (x : X) → slice_get xs k ≡ Some x → k < length xs
-found_inside [] k x h = cc
-found_inside (y ∷ xs) zero x h = omega arith
-found_inside (y ∷ xs) (suc k) x h = let less = found_inside xs k x h in omega (arith, less)
 
 pub public : (m c : ℕ) → 0 < m → sum_to m (λ p. part_of_public p c) ≡ c
 public zero c h = absurd (omega (arith, h))

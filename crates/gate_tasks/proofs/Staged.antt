@@ -19,15 +19,9 @@ use Rattle.gate_tasks.proofs.Grown.{map_map}
 use Rattle.arithmetic_gmw.proofs.Sums.{one_apart}
 use Rattle.boolean_gmw.proofs.Xors.{one_apart as xor_apart}
 use Rattle.gate_tasks.proofs.Hearing.{sends, sum_filtered, xor_filtered, senders_all, senders_one}
+use Rattle.mot_base.proofs.Lists.{equal_turned as turned}
 
 -- ---- opened values
-
-turned : (a b : ℕ) → (a == b) ≡ (b == a)
-turned a b = at (a == b) refl
-  where
-    at : (c : Bool) → (a == b) ≡ c → (a == b) ≡ (b == a)
-    at true e = e ∙ sym (eq-eqb b a (sym (eqb-true a b e)))
-    at false e = e ∙ sym (ne_eqb b a (λ same. eqb-false a b e (sym same)))
 
 flipped : (b : Bool) (x : ℕ) → cond (not b) x 0 ≡ cond b 0 x
 flipped true x = refl

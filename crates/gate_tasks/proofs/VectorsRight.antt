@@ -29,9 +29,10 @@ use Rattle.std.specs.Int.{bit_at}
 use Rattle.dealer_files.specs.Records.{vector_of}
 use Rattle.share_types.specs.declared.needs.Kind.TheVariants.{Bit}
 use Rattle.gate_tasks.proofs.Causal.{strong}
-use Rattle.gate_tasks.proofs.Grown.{got_index, grown-get, map_map}
-use Rattle.gate_tasks.proofs.Sharing.{found_inside, vector_first, vector_second, choose, xor_total_is, length_mapped, get_or_mapped, short_vector, and_small, join_small, public_xor}
+use Rattle.gate_tasks.proofs.Grown.{grown-get, map_map}
+use Rattle.gate_tasks.proofs.Sharing.{vector_first, vector_second, choose, xor_total_is, length_mapped, get_or_mapped, short_vector, and_small, join_small, public_xor}
 use Rattle.gate_tasks.proofs.JointRun.{vector_is, sent, wide_is}
+use Rattle.mot_base.proofs.Lists.{index_at as got_index, inside_of as found_inside}
 
 module _ (plan : Gates) (owns : List Own) (bases : Needs) (session : ℕ) (outside : Outside) (table : Payloads)
     (valid : IsPlan plan) (honest : AreHonest plan owns bases session) (inputs_are : AreInputs plan owns outside.inputs) (joint : IsJoint plan owns table) where

@@ -24,9 +24,10 @@ use Rattle.plan_gates.proofs.NeedsLemmas.{records_never_meet}
 use Rattle.gate_tasks.specs.Payload.{word_bytes, word_in}
 use Rattle.gate_tasks.proofs.Causal.{strong}
 use Rattle.arithmetic_gmw.proofs.Sums.{sum_mod, one_apart, opened_sum}
-use Rattle.gate_tasks.proofs.Grown.{got_index, grown-get, map_map, total_is}
-use Rattle.gate_tasks.proofs.Sharing.{word_first, word_second, back, found_inside, public, cut}
+use Rattle.gate_tasks.proofs.Grown.{grown-get, map_map, total_is}
+use Rattle.gate_tasks.proofs.Sharing.{word_first, word_second, back, public, cut}
 use Rattle.gate_tasks.proofs.JointRun.{word_is, sent, wide_is}
+use Rattle.mot_base.proofs.Lists.{index_at as got_index, inside_of as found_inside}
 
 module _ (plan : Gates) (owns : List Own) (bases : Needs) (session : ℕ) (outside : Outside) (table : Payloads)
     (valid : IsPlan plan) (honest : AreHonest plan owns bases session) (inputs_are : AreInputs plan owns outside.inputs) (joint : IsJoint plan owns table) where

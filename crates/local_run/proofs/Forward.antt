@@ -24,8 +24,8 @@ use Rattle.local_run.specs.declared.item.Load.TheVariants.{Wire, Message}
 use Rattle.local_run.specs.Items.{item, listeners, items_of, items_before, first_item, all_items, number_of, IsItem}
 use Rattle.local_run.specs.Loads.{party, wires_to, heard_by, loads_to, loads_at, reports_loads, giver, IsGiven, edge_to, edges_before, all_edges}
 use Rattle.local_run.proofs.Numbers.{place_of, place_found, number_within, few_items}
-use Rattle.local_run.proofs.Valid.{all_map, all_at, all_passing, Passes, operands_are_before, wire_given, item_is, reports_given}
-use Rattle.mot_base.proofs.Lists.{same_some as some_is, all_append, all_implied as all_more}
+use Rattle.local_run.proofs.Valid.{all_map, all_passing, Passes, operands_are_before, wire_given, item_is, reports_given}
+use Rattle.mot_base.proofs.Lists.{same_some as some_is, all_append, all_implied as all_more, all_at}
 
 -- ---- each item stands at its number
 

@@ -17,7 +17,7 @@ use Rattle.local_run.specs.declared.item.Load.TheVariants.{Wire, Kept, Message}
 use Rattle.local_run.specs.declared.cargo.Cargo.{Cargo}
 use Rattle.local_run.specs.declared.cargo.Cargo.TheVariants as cargo
 use Rattle.local_run.specs.Meaning.{Sends, HasCargo, HasCargoAt, IsCargo, IsCargoAt}
-use Rattle.local_run.proofs.Valid.{all_at}
+use Rattle.mot_base.proofs.Lists.{all_at}
 
 means_push : {E : Type 0} (means : ℕ → E → Type 0) (es : List ℕ) (vs : List E) (e : ℕ) (v : E) → AreMeanings means es vs → means e v → AreMeanings means (es ++ e ∷ []) (vs ++ v ∷ [])
 means_push means [] [] e v are is = (is, tt)

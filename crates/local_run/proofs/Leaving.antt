@@ -24,10 +24,10 @@ use Rattle.local_run.specs.Items.{all_items, number_of, IsItem}
 use Rattle.local_run.specs.Loads.{party, wires_to, heard_by, loads_to, loads_at, told_gates, sent_at, sent_before, report_loads, reports_loads, loads_before, all_loads, all_edges, giver, IsGiven, graph_of}
 use Rattle.local_run.specs.Meaning.{IsMeantAt, edge_means, HasCargoAt, IsCargoAt, HasRun}
 use Rattle.local_run.proofs.Numbers.{item_found, number_within, few_items}
-use Rattle.local_run.proofs.Valid.{all_map, all_at, all_passing, Passes, item_is, loads_given, reports_given}
+use Rattle.local_run.proofs.Valid.{all_map, all_passing, Passes, item_is, loads_given, reports_given}
 use Rattle.local_run.proofs.Sending.{IsReal, all_trivial, has_cargo, is_meant}
 use Rattle.local_run.proofs.Ranges.{all_sources}
-use Rattle.mot_base.proofs.Lists.{same_some as some_is, all_append, all_implied as all_more}
+use Rattle.mot_base.proofs.Lists.{same_some as some_is, all_append, all_implied as all_more, all_at}
 
 -- ---- what edges carry is given and real
 

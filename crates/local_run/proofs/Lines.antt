@@ -37,7 +37,7 @@ use Rattle.std.proofs.lemmas.List.Elements.{All-from_recursion}
 use Rattle.local_run.proofs.Valid.{Passes, all_passing}
 use Rattle.local_run.proofs.Leaving.{sent_real}
 use Rattle.local_run.proofs.Sending.{IsReal}
-use Rattle.mot_base.proofs.Lists.{same_some as some_is, all_implied as all_more}
+use Rattle.mot_base.proofs.Lists.{same_some as some_is, all_implied as all_more, each_pushed as pushed}
 
 -- ---- pairs
 
@@ -281,13 +281,6 @@ each_sendable P (l ∷ ls) [] i d c within long all = absurd (omega (arith, long
 each_sendable P (l ∷ ls) (e ∷ cs) zero d c within long all = in_front P (frame_of l e) (frames_of ls cs) all
 each_sendable P (l ∷ ls) (e ∷ cs) (suc i) d c within long all =
     each_sendable P ls cs i d c (omega (arith, within)) (omega (arith, long)) (from_behind P (frame_of l e) (frames_of ls cs) all)
-
--- what holds at each place, and of one more at the end
-pushed : {X : Type 0} (P : ℕ → X → Type 0) (xs : List X) (x : X) → ((q : ℕ) (y : X) → slice_get xs q ≡ Some y → P q y) → P (length xs) x → (q : ℕ) (y : X) → slice_get (xs ++ x ∷ []) q ≡ Some y → P q y
-pushed P [] x all one zero y there = subst (P 0) (some_is x y there) one
-pushed P [] x all one (suc q) y there = cc
-pushed P (w ∷ xs) x all one zero y there = all 0 y there
-pushed P (w ∷ xs) x all one (suc q) y there = pushed (λ n. P (suc n)) xs x (λ n z. all (suc n) z) one q y there
 
 -- what the code cuts off for a party, and what is left behind it
 pub record IsCut (plan : Gates) (p : ℕ) (ends told sent next : List Cargo) : Type 0 where

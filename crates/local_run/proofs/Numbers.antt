@@ -15,6 +15,7 @@ use Rattle.gate_tasks.proofs.Grown.{got}
 use Rattle.local_run.specs.declared.item.Item.{Item}
 use Rattle.local_run.specs.Items.{item, listeners, items_of, items_before, first_item, all_items, number_of, IsItem}
 use Rattle.local_run.proofs.Lists.{at_left, at_right, passing_few, passing_found}
+use Rattle.mot_base.proofs.Lists.{mapped_at as mapped}
 
 -- ---- how many items there are
 
@@ -33,11 +34,6 @@ few_before plan (suc g) =
     omega (arith, split, few_before plan g, few_of_gate plan g)
 
 -- ---- an item is found
-
-mapped : {X Y : Type 0} (f : X → Y) (xs : List X) (k : ℕ) (x : X) → slice_get xs k ≡ Some x → slice_get (map f xs) k ≡ Some (f x)
-mapped f [] k x there = cc
-mapped f (y ∷ xs) zero x there = ap (λ o. option_map f o) there
-mapped f (y ∷ xs) (suc k) x there = mapped f xs k x there
 
 first_found : (plan : Gates) (g p : ℕ) → p < plan.parties → slice_get (items_of plan g) p ≡ Some (item g 0 p)
 first_found plan g p known =

@@ -14,7 +14,7 @@ use Rattle.gate_tasks.specs.Party as party
 use Rattle.gate_tasks.specs.Party.{Own, party_value}
 use Rattle.gate_tasks.specs.Joint.{Payloads, column, IsJoint}
 use Rattle.gate_tasks.specs.Honest.{own_at, AreHonest, AreInputs, RecombineBy}
-use Rattle.gate_tasks.proofs.Grown.{got_index, grown-get}
+use Rattle.gate_tasks.proofs.Grown.{grown-get}
 use Rattle.gate_tasks.proofs.Recombining.{every_gate_recombines}
 use Rattle.gate_tasks.proofs.Unique.{one_joint_run}
 use Rattle.local_run.specs.declared.report.PartyReport.{PartyReport}
@@ -22,7 +22,7 @@ use Rattle.local_run.specs.Loads.{tells_at}
 use Rattle.local_run.specs.Report.{told_to, plain_told, AreReports}
 use Rattle.local_run.proofs.Valid.{Passes, all_passing}
 use Rattle.std.proofs.lemmas.Option.{slice_get_within}
-use Rattle.mot_base.proofs.Lists.{all_implied as all_more}
+use Rattle.mot_base.proofs.Lists.{all_implied as all_more, index_at as got_index}
 
 told_plain : (kind : Kind) (w n p x : ℕ) (values : ℕ → party.Value) → tells p (record { kind = kind; width = w }) ≡ true → RecombineBy (gives kind) (record { kind = kind; width = w }) n values x → p < n → values p ≡ party.Told (Some x)
 told_plain (OutA y to) w n p x values told recombine less = recombine p less ∙ ap (λ (b : Bool). party.Told (cond b (Some x) None)) told

@@ -27,8 +27,8 @@ use Rattle.local_run.specs.declared.cargo.Cargo.TheVariants as cargo
 use Rattle.local_run.specs.Loads.{giver, IsGiven}
 use Rattle.local_run.specs.Meaning.{place_in, IsMeant, IsTo, Sends, HasCargo, IsCargo, HasRun}
 use Rattle.local_run.proofs.Lists.{at_left, at_right, passing, passing_found}
-use Rattle.local_run.proofs.Valid.{all_map, all_at}
-use Rattle.mot_base.proofs.Lists.{same_some as some_is, all_append}
+use Rattle.local_run.proofs.Valid.{all_map}
+use Rattle.mot_base.proofs.Lists.{same_some as some_is, all_append, mapped_at as mapped, all_at}
 
 -- ---- all messages of a stage
 
@@ -63,11 +63,6 @@ in_flat {Y = Y} f (w ∷ xs) zero j x y there here =
 in_flat f (w ∷ xs) (suc i) j x y there here =
     let rest = in_flat f xs i j x y there here in
     record { at = length (f w) + rest.at; there = at_right (f w) (flat_map f xs) rest.at y rest.there }
-
-mapped : {X Y : Type 0} (f : X → Y) (xs : List X) (k : ℕ) (x : X) → slice_get xs k ≡ Some x → slice_get (map f xs) k ≡ Some (f x)
-mapped f [] k x there = cc
-mapped f (y ∷ xs) zero x there = ap (λ o. option_map f o) there
-mapped f (y ∷ xs) (suc k) x there = mapped f xs k x there
 
 -- ---- what is sent in the first stage
 

@@ -35,7 +35,7 @@ use Rattle.local_run.specs.Meaning.{owns_with, place_in, HasRun}
 use Rattle.local_run.proofs.Staging.{IsTaken}
 use Rattle.local_run.proofs.Sending.{sent_is}
 use Rattle.local_run.proofs.Shaping.{OperandsFit, kind_low}
-use Rattle.mot_base.proofs.Lists.{same_some as some_is}
+use Rattle.mot_base.proofs.Lists.{same_some as some_is, read_at as read_there}
 
 -- ---- own data
 
@@ -180,9 +180,6 @@ has_run plan owns parts i own part cs given is job item own_there part_there tak
     }
 
 -- ---- what the code reads
-
-pub read_there : {X : Type 0} (xs : List X) (k : ℕ) (x : X) → k < length xs → x ≡ get_or xs k x → slice_get xs k ≡ Some x
-read_there xs k x within read = there_is xs k x within ∙ ap (λ y. Some y) (sym read)
 
 pub stage_within : (plan : Gates) (i : Item) (me : ℕ) → IsItem plan i → me ≡ i.party.0 → i.stage < stages plan me i.gate
 stage_within plan i me is same =

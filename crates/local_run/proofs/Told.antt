@@ -11,10 +11,11 @@ use Rattle.share_types.specs.Sums.{each}
 use Rattle.share_types.specs.Bits.{bits, number}
 use Rattle.share_types.specs.declared.receiver.Receiver.{Receiver}
 use Rattle.circuit_tables.specs.Table.{Output, Told, asked, joined_bits, AreCut}
-use Rattle.mot_base.proofs.Lists.{take_next, length_taken}
+use Rattle.mot_base.proofs.Lists.{take_next, length_taken, some_at as there, index_at as index_is}
 use Rattle.plan_gates.specs.Gate.{Gate, width_at, receiver_of}
 use Rattle.plan_gates.specs.Plan.{Gates}
 use Rattle.plan_gates.specs.Plain.{Outside, plain_before, number_at, GateTold, told_entry, told_by}
+use Rattle.plan_gates.proofs.PlainLemmas.{length_plain}
 use Rattle.plan_gates.specs.Messages.{tells_by, tells}
 use Rattle.share_types.specs.Wires.{includes}
 use Rattle.local_run.specs.Loads.{tells_at, told_gates}
@@ -30,16 +31,6 @@ to_append : (p : ℕ) (xs ys : List GateTold) → bits_to p (xs ++ ys) ≡ bits_
 to_append p xs ys =
     ap (flat_map (λ (t : GateTold). t.bits)) (filter-append (λ (t : GateTold). includes t.to p) xs ys)
     ∙ flat_map-append (λ (t : GateTold). t.bits) (filter (λ (t : GateTold). includes t.to p) xs) (filter (λ (t : GateTold). includes t.to p) ys)
-
-there : {X : Type 0} (xs : List X) (n : ℕ) → n < length xs → (x : X) × (slice_get xs n ≡ Some x)
-there [] n h = absurd (omega (arith, h))
-there (x ∷ xs) zero h = (x, refl)
-there (x ∷ xs) (suc n) h = there xs n (omega (arith, h))
-
-index_is : (ns : List ℕ) (n k : ℕ) → slice_get ns n ≡ Some k → slice_index ns n ≡ k
-index_is [] n k h = cc
-index_is (x ∷ ns) zero k h = cc
-index_is (x ∷ ns) (suc n) k h = index_is ns n k h
 
 width_is : (gates : List Gate) (n : ℕ) (gate : Gate) → slice_get gates n ≡ Some gate → width_at gates n ≡ gate.width
 width_is gates n gate h = ap (λ (o : Option Gate). unwrap_or (option_map (λ (g : Gate). g.width) o) 0) h
@@ -151,12 +142,6 @@ joined_is f w (g ∷ gs) (b ∷ told) words widths =
     let word = heads (λ (b : Bits). b.word) f b g told gs words in
     let width = heads (λ (b : Bits). b.width) w b g told gs widths in
     ap₂ (λ (x y : List Bool). x ++ y) (ap₂ bits width.first word.first) (joined_is f w gs told word.rest width.rest)
-
-length_plain : (gates : List Gate) (outside : Outside) (n : ℕ) → length (plain_before gates outside n) ≡ n
-length_plain gates outside zero = refl
-length_plain gates outside (suc n) =
-    length_push (plain_before gates outside n) (number_at gates outside (plain_before gates outside n) (slice_get gates n))
-    ∙ (let before = length_plain gates outside n in omega (arith, before))
 
 pub joined_entries : (plan : Gates) (outside : Outside) (p : ℕ) (told : List Bits) → AreToldInPlain plan outside p told →
     joined_bits told ≡ bits_of_entries (told_by plan.gates (plain_before plan.gates outside (length plan.gates))) p

@@ -13,10 +13,10 @@ use Rattle.local_run.specs.declared.cargo.Cargo.{Cargo}
 use Rattle.local_run.specs.Items.{all_items}
 use Rattle.local_run.specs.Loads.{loads_to, all_loads, reports_loads, graph_of}
 use Rattle.local_run.specs.Meaning.{edge_means, AreMeant, AreFit, IsMeant, IsFit, HasRun, HasCargoAt, IsCargoAt}
-use Rattle.local_run.proofs.Serving.{read_there}
 use Rattle.local_run.proofs.Ranges.{inputs_meant, ends_meant}
 use Rattle.local_run.proofs.Leaving.{all_have, outputs_mean, none_outside}
 use Rattle.local_run.proofs.Lines.{pairs_weaker}
+use Rattle.mot_base.proofs.Lists.{read_at as read_there}
 
 pub within : (plan : Gates) (dag graph : Graph) (k : ℕ) → dag ≡ graph → dag ≡ graph_of plan → k < graph.items → k < length (all_items plan)
 within plan dag graph k same is less = subst (λ (g : Graph). k < g.items) (sym same ∙ is) less

@@ -15,18 +15,13 @@ use Rattle.local_run.specs.declared.item.Load.TheVariants.{Wire, Message}
 use Rattle.local_run.specs.Items.{item, listeners, items_of, items_before, all_items, IsItem}
 use Rattle.local_run.specs.Loads.{party, wires_to, heard_by, loads_to, told_gates, sent_at, sent_before, report_loads, reports_loads, IsGiven}
 use Rattle.local_run.proofs.Lists.{passing}
-use Rattle.mot_base.proofs.Lists.{all_append, all_implied as all_more, same_some as some_is}
+use Rattle.mot_base.proofs.Lists.{all_append, all_implied as all_more, same_some as some_is, all_at}
 
 -- ---- facts of all elements
 
 pub all_map : {X Y : Type 0} (P : Y → Type 0) (f : X → Y) (Q : X → Type 0) → ((x : X) → Q x → P (f x)) → (xs : List X) → AllByRecursion Q xs → AllByRecursion P (map f xs)
 all_map P f Q more [] all = tt
 all_map P f Q more (x ∷ xs) all = (more x all.0, all_map P f Q more xs all.1)
-
-pub all_at : {X : Type 0} (P : X → Type 0) (xs : List X) (k : ℕ) (x : X) → AllByRecursion P xs → slice_get xs k ≡ Some x → P x
-all_at P [] k x all there = cc
-all_at P (y ∷ xs) zero x all there = subst P (some_is y x there) all.0
-all_at P (y ∷ xs) (suc k) x all there = all_at P xs k x all.1 there
 
 -- the first numbers are below their count, and those that pass a test pass it
 pub record Passes (test : ℕ → Bool) (n p : ℕ) : Type 0 where

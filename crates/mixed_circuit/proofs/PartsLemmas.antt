@@ -15,7 +15,7 @@ use Rattle.mixed_circuit.specs.Line.{Parts, no_parts, is_letter_of, letter_of, i
 use Rattle.text_lines.specs.Chain.{or_cause, unless}
 use Rattle.mixed_circuit.specs.Stated.{AreWhole, IsSomeName}
 use Rattle.text_lines.proofs.ChainLemmas.{ok_then, or_some, unless_true}
-use Rattle.mot_base.proofs.Lists.{same_some, either_true as or_true, both_true}
+use Rattle.mot_base.proofs.Lists.{same_some, either_true as or_true, both_true, mapped_some as mapped}
 use Rattle.text_lines.specs.Text.{Text}
 use Rattle.text_lines.specs.Word.{number_of}
 use Rattle.mot_base.specs.Names.{is_name}
@@ -87,10 +87,6 @@ both_grow operation s slots x y z f g = record {
     one false before after h = h
 
 -- ---- one word
-
-mapped : {X Z : Type 0} (f : X → Z) (o : Option X) (z : Z) → option_map f o ≡ Some z → (x : X) × (o ≡ Some x) × (z ≡ f x)
-mapped f None z h = cc
-mapped f (Some x) z h = (x, refl, sym (same_some _ _ h))
 
 within : (least most : ℕ) (o : Option ℕ) (n : ℕ) → option_and_then (λ n. cond (nat_le least n && nat_le n most) (Some n) None) o ≡ Some n → AreBetween least most n
 within least most None n h = cc

@@ -16,7 +16,7 @@ use Rattle.share_types.specs.Wires.{width_of}
 use Rattle.mixed_language.specs.Table.{inputs_of, input_entry, owner_of}
 use Rattle.mixed_language.specs.Wide.{AllWide}
 use Rattle.mixed_language.specs.Eval.{number_made, value_made, seen_of, width_given_by, value_of_statement, IsEvaluated, EvaluatesOnce, inputs_taken}
-use Rattle.mot_base.proofs.Lists.{same_some, take_next, last_at as last, take_whole as taken_all}
+use Rattle.mot_base.proofs.Lists.{same_some, take_next, last_at as last, take_whole as taken_all, before_at as kept}
 
 pub moved : (x places : ℕ) (r : Option ℕ) → SomeIff r (places < 64) (x * 2 ^ places % 2 ^ 64) →
     unwrap_or r 0 ≡ 2 ^ places * x % 2 ^ 64
@@ -45,11 +45,6 @@ pub record EvaluatedTo (statements : List Statement) (inputs values : List ℕ) 
 
 pub none_evaluated : (ss : List Statement) (inputs : List ℕ) → EvaluatedTo ss inputs [] 0
 none_evaluated ss inputs = record { count = refl; each = λ at s h e. absurd (omega (arith, h)) }
-
-kept : {X : Type 0} (xs ys : List X) (at : ℕ) → at < length xs → slice_get (xs ++ ys) at ≡ slice_get xs at
-kept [] ys at h = absurd (omega arith)
-kept (x ∷ xs) ys zero h = refl
-kept (x ∷ xs) ys (suc at) h = kept xs ys at (omega arith)
 
 pub evaluated_next : (ss : List Statement) (inputs values : List ℕ) (n value : ℕ) → EvaluatedTo ss inputs values n →
     ((s : Statement) → slice_get ss n ≡ Some s → value ≡ value_of_statement ss inputs values n s) →

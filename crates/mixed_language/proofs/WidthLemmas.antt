@@ -25,7 +25,7 @@ use Rattle.mixed_language.specs.Language.{states, is_name_slot, is_told_slot}
 use Rattle.mixed_language.specs.Table.{inputs_of, input_entry, owner_of, receiver_of, name_at, width_at, told_value}
 use Rattle.mixed_language.specs.Eval.{told_among}
 use Rattle.mixed_language.specs.Wide.{IsWide, AllWide}
-use Rattle.mot_base.proofs.Lists.{same_some}
+use Rattle.mot_base.proofs.Lists.{same_some, taken_at as took}
 use Rattle.mixed_language.proofs.EarlierLemmas.{wire_there}
 
 -- a number of bits that a value may have
@@ -96,15 +96,6 @@ statement_wide parties before s wire wide is e =
 wire_here : (ss : List Statement) (at : ℕ) (s : Statement) (wire : WireType) → slice_get ss at ≡ Some s → s.wire ≡ Some wire →
     wire_at ss at ≡ Some wire
 wire_here ss at s wire e f = rw e f
-
--- what stands among the first elements
-pub took : {X : Type 0} (xs : List X) (n at : ℕ) (x : X) → slice_get (take n xs) at ≡ Some x →
-    (at < n) × (slice_get xs at ≡ Some x)
-took [] zero at x e = cc
-took [] (suc n) at x e = cc
-took (y ∷ ys) zero at x e = cc
-took (y ∷ ys) (suc n) zero x e = (omega arith, e)
-took (y ∷ ys) (suc n) (suc at) x e = let rest = took ys n at x e in (omega (arith, rest.0), rest.1)
 
 -- values among the first statements are so wide, where all values before a place are
 first_wide : (ss : List Statement) (n : ℕ) →

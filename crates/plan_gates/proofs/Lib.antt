@@ -1,3 +1,4 @@
 pub mod NeedsLemmas
 pub mod MessageLemmas
 pub mod SlotLemmas
+pub mod PlainLemmas

@@ -16,12 +16,13 @@ pub record Outside : Type 0 where
 abbrev pub only : List ℕ → Outside
 only inputs = record { inputs = inputs; parts = λ party g. 0 }
 
--- what the number of a gate is made of: what comes from outside, the numbers of its operands in order, and the width of
--- the first
+-- what the number of a gate is made of: what comes from outside, the numbers of its operands in order, of which there
+-- are three at most, and the width of the first
 pub record Seen : Type 0 where
   pub outside : Outside
   pub x : ℕ
   pub y : ℕ
+  pub z : ℕ
   pub low : ℕ
 
 -- the number of a gate, before it is cut to the gate's width
@@ -53,6 +54,7 @@ seen_of gates outside before kind = record {
   outside = outside;
   x = operand_number before (slice_get (operands kind) 0);
   y = operand_number before (slice_get (operands kind) 1);
+  z = operand_number before (slice_get (operands kind) 2);
   low = low_width gates kind;
 }
 

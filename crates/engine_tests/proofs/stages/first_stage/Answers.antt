@@ -1,6 +1,7 @@
 use Rattle.std.proofs.Common.{◌<◌, length, arith}
-use Rattle.local_run.proofs.Serving.{serves, read_there}
+use Rattle.local_run.proofs.Serving.{serves}
 use Rattle.engine_tests.proofs.stages.first_stage.Goals as goal
+use Rattle.mot_base.proofs.Lists.{read_at as read_there}
 
 pub run_stage-requires-clause-serves : goal.run_stage-requires-clause-serves
 run_stage-requires-clause-serves c =

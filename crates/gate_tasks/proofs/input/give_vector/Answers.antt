@@ -13,8 +13,9 @@ use Rattle.gate_tasks.specs.ByValue.{stand}
 use Rattle.gate_tasks.specs.Sending.{payload_of}
 use Rattle.gate_tasks.proofs.Grown.{there_is}
 use Rattle.gate_tasks.proofs.Operands.{wide_in, its_width}
-use Rattle.gate_tasks.proofs.Giving.{same_length, field_at, inside_there, own_share, given_share, outs_same, is_other}
+use Rattle.gate_tasks.proofs.Giving.{same_length, field_at, own_share, given_share, outs_same, is_other}
 use Rattle.gate_tasks.proofs.input.give_vector.Goals as goal
+use Rattle.mot_base.proofs.Lists.{some_at as inside_there}
 
 pub bits-x-requires-clause-some : goal.bits-x-requires-clause-some
 bits-x-requires-clause-some c =

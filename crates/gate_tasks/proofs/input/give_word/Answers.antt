@@ -7,9 +7,10 @@ use Rattle.share_types.proofs.BitsLemmas.{number-cut}
 use Rattle.gate_tasks.specs.Payload.{word_bytes}
 use Rattle.gate_tasks.specs.Party.{given_word}
 use Rattle.gate_tasks.specs.ByValue.{stand}
-use Rattle.gate_tasks.proofs.Grown.{got, got_index}
+use Rattle.gate_tasks.proofs.Grown.{got}
 use Rattle.gate_tasks.proofs.Giving.{total_others, cut_word, outs_same, is_other}
 use Rattle.gate_tasks.proofs.input.give_word.Goals as goal
+use Rattle.mot_base.proofs.Lists.{index_at as got_index}
 
 pub returns-clause-kept : goal.returns-clause-kept
 returns-clause-kept c =

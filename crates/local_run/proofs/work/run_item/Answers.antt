@@ -6,8 +6,9 @@ use Rattle.std.specs.List.{flat_map}
 use Rattle.local_run.specs.Cargo.{payloads_of}
 use Rattle.local_run.specs.Meaning.{owns_with}
 use Rattle.local_run.proofs.Staging.{taken}
-use Rattle.local_run.proofs.Serving.{serves, has_run, read_there, stage_within}
+use Rattle.local_run.proofs.Serving.{serves, has_run, stage_within}
 use Rattle.local_run.proofs.work.run_item.Goals as goal
+use Rattle.mot_base.proofs.Lists.{read_at as read_there}
 
 pub run_place-requires-clause-serves : goal.run_place-requires-clause-serves
 run_place-requires-clause-serves c =
