@@ -6,3 +6,5 @@
 mod by_hand;
 #[cfg(test)]
 mod garbled;
+#[cfg(test)]
+mod wide;
