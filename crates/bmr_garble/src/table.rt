@@ -1,4 +1,4 @@
-ghost use Rattle.std.specs.Prelude.{◌≡◌, ℕ, ◌<◌, ◌≤◌, ◌+◌, ◌*◌, ◌/◌, ◌%◌, ◌==◌, if◌then◌else◌, length, IfOk};
+ghost use Rattle.std.specs.Prelude.{◌≡◌, ℕ, ◌<◌, ◌≤◌, ◌+◌, ◌*◌, ◌/◌, ◌%◌, ◌==◌, if◌then◌else◌, length, vec_capacity, IfOk};
 ghost use Rattle.mot_base.specs.Limits.{most_width, most_parties};
 ghost use Rattle.share_types.specs.Keys.{◌⊕◌, bit, times, key_at};
 ghost use Rattle.bmr_keys.specs.Mask.{Mask, IsPart, owners_of};
@@ -93,22 +93,24 @@ impl Garbler<'_> {
     ghost use Rattle.share_types.specs.Keys.{key_of};
     ghost use Rattle.share_types.specs.Sums.{each};
 
-    /// The party's shares of all entries, by bit, row and owner.
+    /// The party's shares of all entries, by bit, row and owner. The list is made with room for all of them, and takes
+    /// no memory more.
     fn rows(&self, alloc: Global) -> Result<Vec<Key>, NoMemory>
         requires some { 1 ≤ self.now.owners }
         requires most { self.now.owners ≤ most_parties }
         requires shape { HaveShape self.now.owners self.now.u.now.mask.width self.now.u.now self.now.v.now self.now.w.now self.now.product.now }
-        ensures { let n = self.now.owners in IfOk result (λ rows. rows.items ≡ each (4 * self.now.u.now.mask.width * n) (λ k. record {
+        ensures rows { let n = self.now.owners in IfOk result (λ rows. rows.items ≡ each (4 * self.now.u.now.mask.width * n) (λ k. record {
           0 =
               share_entry self.now.me.0 self.now.offset.0 self.now.gate (seen n self.now.u.now) (seen n self.now.v.now) (seen n self.now.w.now)
               (key_of n self.now.product.now) (k / n / 4) (k / n % 4) (k % n);
         })) }
+        ensures memory { IfOk result (λ rows. vec_capacity rows ≡ 4 * self.now.u.now.mask.width * self.now.owners) }
     {
         let count = 4 * usize::from(self.u.mask.width) * self.owners;
         let mut rows = Vec::with_capacity(alloc, count)?;
         for k in 0..count {
             let line = k / self.owners;
-            rows.push(self.entry(line / 4, (line % 4) as u8, k % self.owners))?;
+            rows.push_reserved(self.entry(line / 4, (line % 4) as u8, k % self.owners));
         }
         Ok(rows)
     }

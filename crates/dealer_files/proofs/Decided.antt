@@ -12,7 +12,7 @@ use Rattle.dealer_files.specs.Laws.{IsOfNumbers, EachIsFileOrFaults}
 use Rattle.dealer_files.proofs.Heads.{passed}
 use Rattle.dealer_files.proofs.Parted.{one-part}
 use Rattle.dealer_files.proofs.Places.{NotAbove, not_above-none, not_above-more, above-none, above-first, first-bits, first-shared, first-keys, none-wrong}
-use Rattle.dealer_files.proofs.Told.{is-read}
+use Rattle.dealer_files.proofs.Parsed.{is-read}
 use Rattle.dealer_files.proofs.Spelled.{IsBytes}
 use Rattle.dealer_files.proofs.Whole.{no-fault, none-is}
 

@@ -2,10 +2,10 @@ pub mod Decided
 pub mod Files
 pub mod Garbling
 pub mod Heads
+pub mod Parsed
 pub mod Parted
 pub mod Pieces
 pub mod Places
 pub mod Spelled
-pub mod Told
 pub mod Vectors
 pub mod Whole

@@ -5,4 +5,8 @@
 #[cfg(test)]
 mod by_hand;
 #[cfg(test)]
+mod calls;
+#[cfg(test)]
 mod garbled;
+#[cfg(test)]
+mod wide;

@@ -19,7 +19,7 @@ returns c = λ n left right out shares as_left as_right as_out as_shares.
     let me = c.args.me.0 in
     let offset = c.args.offset.0 in
     let gate = c.args.gate in
-    let rows = c.new.ensures ∙ (c.in_ok-rows.ensures ∙ ap (λ m. each {X = Key} (4 * width * m) (λ k. record {
+    let rows = c.new.ensures ∙ (c.in_ok-rows.ensures.rows ∙ ap (λ m. each {X = Key} (4 * width * m) (λ k. record {
       0 =
           share_entry me offset gate (seen m u) (seen m v) (seen m w) (key_of m keys) (k / m / 4) (k / m % 4) (k % m);
     })) owners) in
