@@ -8,7 +8,7 @@ ghost use Rattle.circuit_tables.specs.Values.{HaveWidths};
 ghost use Rattle.dealer_files.specs.Part.{counts_of};
 ghost use Rattle.plan_gates.specs.Gate.{Gate};
 ghost use Rattle.plan_gates.specs.Needs.{all_needs};
-ghost use Rattle.gate_tasks.specs.declared.own.Own.{Own};
+ghost use Rattle.joint_run.specs.declared.own.Own.{Own};
 ghost use Rattle.gate_tasks.specs.Stage.{HasInput, IsOf, AreOperands};
 ghost use Rattle.gate_tasks.specs.Task.{HoldTypes};
 ghost use Rattle.local_run.specs.Job.{ServeParty, IsJob};

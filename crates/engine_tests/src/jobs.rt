@@ -4,7 +4,7 @@ ghost use Rattle.std.specs.Prelude.{◌≡◌, ◌≤◌, ℕ, length, slice_get
 ghost use Rattle.mot_base.specs.Limits.{most_file_bytes, least_parties, most_parties};
 ghost use Rattle.circuit_tables.specs.Table.{AreNamedApart};
 ghost use Rattle.circuit_tables.specs.Values.{HaveWidths};
-ghost use Rattle.gate_tasks.specs.declared.own.Own.{Own};
+ghost use Rattle.joint_run.specs.declared.own.Own.{Own};
 ghost use Rattle.local_run.specs.Job.{IsJob};
 
 use crate::conditions::is_job;

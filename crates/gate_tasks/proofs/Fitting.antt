@@ -15,11 +15,11 @@ use Rattle.plan_gates.specs.Messages.{words, vectors, messages_of, message, are_
 use Rattle.share_types.specs.Wires.{includes}
 use Rattle.plan_gates.proofs.MessageLemmas.{gate_there}
 use Rattle.share_types.specs.Sums.{each}
-use Rattle.gate_tasks.specs.Payload.{vector_in}
-use Rattle.gate_tasks.specs.Party.{Payload}
+use Rattle.joint_run.specs.Payload.{vector_in}
+use Rattle.joint_run.specs.Party.{Payload}
 use Rattle.gate_tasks.specs.Stage.{AreAwaited, HasShape, senders, kind_at}
 use Rattle.gate_tasks.specs.ByValue.{words_heard, vectors_heard}
-use Rattle.gate_tasks.proofs.Grown.{there_is}
+use Rattle.joint_run.proofs.Grown.{there_is}
 use Rattle.gate_tasks.proofs.Operands.{its_width}
 use Rattle.gate_tasks.proofs.Hearing.{first_of, message_is}
 use Rattle.std.proofs.lemmas.Bool.Decides.{nat_tests}

@@ -13,10 +13,10 @@ use Rattle.boolean_gmw.specs.Sharing.{share_given, own_word, low_word, given_wor
 use Rattle.plan_gates.specs.declared.message.Message.{Message}
 use Rattle.plan_gates.specs.Plan.{Gates}
 use Rattle.plan_gates.specs.Messages.{message, are_two}
-use Rattle.gate_tasks.specs.Party.{Payload}
+use Rattle.joint_run.specs.Party.{Payload}
 use Rattle.gate_tasks.specs.Sending.{outs_by, out_by}
 use Rattle.gate_tasks.specs.declared.own.StageEnv.{StageEnv}
-use Rattle.gate_tasks.proofs.Grown.{got, total_is, grown-get}
+use Rattle.joint_run.proofs.Grown.{got, total_is, grown-get}
 use Rattle.arithmetic_gmw.proofs.Sums.{one_apart}
 use Rattle.gate_tasks.proofs.Hearing.{filter_next}
 use Rattle.mot_base.proofs.Lists.{same_some as some_is, some_at as inside_there}

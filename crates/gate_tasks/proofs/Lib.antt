@@ -1,15 +1,3 @@
-pub mod Causal
-pub mod Unique
-pub mod Bytes
-pub mod Grown
-pub mod Triples
-pub mod Sharing
-pub mod JointRun
-pub mod WordsRight
-pub mod VectorsRight
-pub mod Recombining
-pub mod Narrow
-pub mod Lengths
 pub mod Hearing
 pub mod Operands
 pub mod Opened
@@ -19,5 +7,3 @@ pub mod Staged
 pub mod Running
 pub mod Gathered
 pub mod Waiting
-pub mod Uses
-pub mod Following

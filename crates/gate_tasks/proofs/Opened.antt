@@ -6,8 +6,8 @@ use Rattle.std.proofs.lemmas.Nat.{xor_comm}
 use Rattle.std.proofs.lemmas.List.{map-append, take_more}
 use Rattle.share_types.specs.Sums.{total, xor_total}
 use Rattle.share_types.proofs.Parties.{total-append, xor_total-append}
-use Rattle.gate_tasks.specs.Payload.{word_in, vector_in}
-use Rattle.gate_tasks.specs.Party.{Payload}
+use Rattle.joint_run.specs.Payload.{word_in, vector_in}
+use Rattle.joint_run.specs.Party.{Payload}
 use Rattle.gate_tasks.specs.ByValue.{opened_words, opened_vectors}
 
 mapped_more : (f : Payload → ℕ) (xs : List Payload) (i : ℕ) (x : Payload) → i < length xs → x ≡ get_or xs i x →

@@ -13,13 +13,13 @@ use Rattle.plan_gates.proofs.MessageLemmas.{gate_there}
 use Rattle.mot_base.specs.Limits.{most_width}
 use Rattle.share_types.specs.declared.needs.Kind.TheVariants.{Bit}
 use Rattle.dealer_files.specs.Part.{Part}
-use Rattle.gate_tasks.specs.declared.own.Own.{Own as OwnInMemory}
-use Rattle.gate_tasks.specs.Honest.{Taken, taken_by}
+use Rattle.joint_run.specs.declared.own.Own.{Own as OwnInMemory}
+use Rattle.joint_run.specs.Honest.{Taken, taken_by}
 use Rattle.gate_tasks.specs.Stage.{taken_from, Serves, AreOperands, IsOf, kind_at, operands_of}
 use Rattle.gate_tasks.specs.ByValue.{taken_at, keeps_width, is_conjunction, is_product, words_heard, vectors_heard}
 use Rattle.gate_tasks.specs.declared.value.Value.{Value as ValueInMemory}
 use Rattle.gate_tasks.specs.declared.value.Value.TheVariants as code
-use Rattle.gate_tasks.proofs.Grown.{there_is}
+use Rattle.joint_run.proofs.Grown.{there_is}
 
 -- the gate of an operand
 pub record Used (plan : Gates) (u : Use) : Type 0 where

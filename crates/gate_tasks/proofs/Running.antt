@@ -11,9 +11,9 @@ use Rattle.plan_gates.specs.declared.draft.Sizes.{Sizes}
 use Rattle.plan_gates.specs.Plan.{Gates, IsPlan, sizes_of}
 use Rattle.plan_gates.specs.Messages.{message, messages_of, messages_at, are_two, hears, rounds, stages, awaits}
 use Rattle.plan_gates.proofs.MessageLemmas.{heard_is}
-use Rattle.gate_tasks.specs.Party.{Own, Value, Told, Payload, Hand, Rounds, word_share, vector_share, silence, sends_at, gate_sends, gate_value, round_sends, value_at, WordShare, VectorShare, kept_word, kept_vector, width}
-use Rattle.gate_tasks.specs.Party as party
-use Rattle.gate_tasks.specs.Payload.{word_in, vector_in}
+use Rattle.joint_run.specs.Party.{Own, Value, Told, Payload, Hand, Rounds, word_share, vector_share, silence, sends_at, gate_sends, gate_value, round_sends, value_at, WordShare, VectorShare, kept_word, kept_vector, width}
+use Rattle.joint_run.specs.Party as party
+use Rattle.joint_run.specs.Payload.{word_in, vector_in}
 use Rattle.gate_tasks.specs.Stage.{value_of, own_with, hand_in, gate_of, out_to, outs_in, outs_of, formed_in, formed_before, carried_on, value_on, is_last, rounds_sent, senders, receivers, kind_at, operands_of, operands_at, heard_in, IsStage, Gives}
 use Rattle.gate_tasks.specs.ByValue.{kind_in, stand, word_at, vector_at, value_from, formed_of, given_of, value_of_stage, hears_at, is_owned}
 use Rattle.gate_tasks.specs.Sending.{out_by, outs_by, carried_with}

@@ -10,12 +10,12 @@ use Rattle.plan_gates.specs.Gate.{Kind, Gate, InA, ConstA, AddA, SubA, AddConstA
 use Rattle.plan_gates.specs.Plan.{Gates, IsPlan}
 use Rattle.plan_gates.specs.Messages.{hears, rounds}
 use Rattle.share_types.specs.Wires.{includes}
-use Rattle.gate_tasks.specs.Payload.{word_bytes, word_in, vectors_bytes, vector_in}
-use Rattle.gate_tasks.specs.Party.{Own, Value, WordShare, VectorShare, Told, Payload, Hand, Rounds, hand, word, vector, width, triple, bit_triple, given_word, given_vector, kept_word, kept_vector, opened_word, opened_vector, left_word, right_word, left_vector, right_vector, gate_value, gate_sends, silence}
+use Rattle.joint_run.specs.Payload.{word_bytes, word_in, vectors_bytes, vector_in}
+use Rattle.joint_run.specs.Party.{Own, Value, WordShare, VectorShare, Told, Payload, Hand, Rounds, hand, word, vector, width, triple, bit_triple, given_word, given_vector, kept_word, kept_vector, opened_word, opened_vector, left_word, right_word, left_vector, right_vector, gate_value, gate_sends, silence}
 use Rattle.gate_tasks.specs.Stage.{senders}
 use Rattle.gate_tasks.specs.ByValue.{word_at, vector_at, opened_words, opened_vectors, formed, given_out, value_from, hears_at, is_owned}
 use Rattle.gate_tasks.specs.declared.value.Value.{Value as ValueInMemory}
-use Rattle.gate_tasks.proofs.Grown.{map_map}
+use Rattle.joint_run.proofs.Grown.{map_map}
 use Rattle.arithmetic_gmw.proofs.Sums.{one_apart}
 use Rattle.boolean_gmw.proofs.Xors.{one_apart as xor_apart}
 use Rattle.gate_tasks.proofs.Hearing.{sends, sum_filtered, xor_filtered, senders_all, senders_one}

@@ -11,7 +11,7 @@ use Rattle.message_demux.specs.Kept.{InboxContents}
 use Rattle.plan_gates.specs.declared.message.Message.{Message}
 use Rattle.plan_gates.specs.Plan.{Gates}
 use Rattle.plan_gates.specs.Messages.{message, spec_of, are_two, awaits}
-use Rattle.gate_tasks.specs.Party.{Payload}
+use Rattle.joint_run.specs.Party.{Payload}
 use Rattle.gate_tasks.specs.Wires.{value_held}
 use Rattle.gate_tasks.specs.Stage.{HasShape, AreOperands, AreAwaited, senders, operands_at}
 use Rattle.gate_tasks.specs.Task.{held_values, payloads_at, gate_lacking, slot_lacking, party_lacking, slot_from, lacking, HoldTypes, ExpectsAll, KeptFit}

@@ -6,8 +6,8 @@ use Rattle.boolean_gmw.specs.Shares as boolean
 use Rattle.plan_gates.specs.Gate.{Kind, Given, InA, ConstA, AddA, SubA, AddConstA, MulConstA, MulA, OutA, InB, ConstB, XorB, XorConstB, SliceB, JoinB, AndB, OutB, Word, Vector, uses, gives, width_at}
 use Rattle.plan_gates.specs.Gate as plan
 use Rattle.share_types.specs.Wires.{includes}
-use Rattle.gate_tasks.specs.Payload.{word_bytes, word_in, vectors_bytes, vector_in}
-use Rattle.gate_tasks.specs.Party.{Value, WordShare, VectorShare, Told, Payload, Hand, word_share, vector_share, width, triple, bit_triple, given_word, given_vector, kept_word, kept_vector}
+use Rattle.joint_run.specs.Payload.{word_bytes, word_in, vectors_bytes, vector_in}
+use Rattle.joint_run.specs.Party.{Value, WordShare, VectorShare, Told, Payload, Hand, word_share, vector_share, width, triple, bit_triple, given_word, given_vector, kept_word, kept_vector}
 use Rattle.gate_tasks.specs.Stage.{value_of, kind_at, hand_in}
 use Rattle.gate_tasks.specs.declared.own.StageEnv.{StageEnv}
 use Rattle.gate_tasks.specs.declared.value.Value.{Value as ValueInMemory}

@@ -1,11 +1,5 @@
-pub mod Payload
-pub mod Party
-pub mod Joint
-pub mod Honest
-pub mod Laws
 pub mod Stage
 pub mod ByValue
 pub mod Sending
 pub mod Wires
 pub mod Task
-pub mod Uses

@@ -2,8 +2,8 @@
 use Rattle.std.specs.Option.{unwrap_or}
 use Rattle.std.specs.Prelude.{ℕ, ◌<◌, List, [], ◌∷◌, ◌++◌, take, length, map, slice_get, slice_index, Option, Some, None}
 use Rattle.share_types.specs.declared.bits.Bits.{Bits}
-use Rattle.gate_tasks.specs.Payload.{word_bytes, vectors_bytes}
-use Rattle.gate_tasks.specs.Party.{Payload}
+use Rattle.joint_run.specs.Payload.{word_bytes, vectors_bytes}
+use Rattle.joint_run.specs.Party.{Payload}
 use Rattle.gate_tasks.specs.Stage.{receivers}
 use Rattle.gate_tasks.specs.declared.own.StageEnv.{StageEnv}
 use Rattle.gate_tasks.specs.declared.outgoing.Out.{Out}

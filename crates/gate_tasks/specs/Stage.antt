@@ -13,12 +13,12 @@ use Rattle.plan_gates.specs.Plan.{Gates}
 use Rattle.plan_gates.specs.Needs.{offset, needs_at}
 use Rattle.plan_gates.specs.declared.message.Message.{Message}
 use Rattle.plan_gates.specs.Messages.{message, hears, rounds, stages, awaits}
-use Rattle.gate_tasks.specs.Party.{Own, Value, WordShare, VectorShare, Told, Payload, Rounds, Hand, hand, value_at, round_sends}
-use Rattle.gate_tasks.specs.Honest.{Taken, taken_by}
+use Rattle.joint_run.specs.Party.{Own, Value, WordShare, VectorShare, Told, Payload, Rounds, Hand, hand, value_at, round_sends}
+use Rattle.joint_run.specs.Honest.{Taken, taken_by}
 use Rattle.gate_tasks.specs.declared.value.Value.{Value as ValueInMemory}
 use Rattle.gate_tasks.specs.declared.value.Value.TheVariants as code
 use Rattle.gate_tasks.specs.declared.outgoing.Out.{Out}
-use Rattle.gate_tasks.specs.declared.own.Own.{Own as OwnInMemory}
+use Rattle.joint_run.specs.declared.own.Own.{Own as OwnInMemory}
 use Rattle.gate_tasks.specs.declared.own.StageEnv.{StageEnv}
 use Rattle.gate_tasks.specs.declared.stage.StageOut.{StageOut}
 

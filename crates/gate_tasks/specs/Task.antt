@@ -10,7 +10,7 @@ use Rattle.message_demux.specs.Kept.{InboxContents}
 use Rattle.plan_gates.specs.Gate.{Gate}
 use Rattle.plan_gates.specs.Plan.{Gates}
 use Rattle.plan_gates.specs.Messages.{message, spec_of, awaits}
-use Rattle.gate_tasks.specs.Party.{Payload, Hand, Rounds, value_at}
+use Rattle.joint_run.specs.Party.{Payload, Hand, Rounds, value_at}
 use Rattle.gate_tasks.specs.Wires.{value_held}
 use Rattle.gate_tasks.specs.Stage.{IsOf, value_of, gate_of, senders, operands_at, outs_of, carried_on, is_last}
 use Rattle.gate_tasks.specs.declared.value.Value.{Value as ValueInMemory}

@@ -3,10 +3,10 @@
 ghost use Rattle.std.specs.Prelude.{◌≡◌, ◌<◌, ◌≤◌, ◌+◌, ◌*◌, ◌^◌, All, length, slice_index_or, []};
 ghost use Rattle.message_demux.specs.Slots.{vector_bytes};
 ghost use Rattle.mot_base.specs.Limits.{most_width};
-ghost use Rattle.gate_tasks.specs.Payload.{vector_in};
+ghost use Rattle.joint_run.specs.Payload.{vector_in};
 ghost use Rattle.gate_tasks.specs.ByValue.{opened_words, opened_vectors};
 
-use crate::payload::{vector_in, word_in};
+use joint_run::{vector_in, word_in};
 use mot_base::Payload;
 use share_types::Bits;
 

@@ -4,8 +4,8 @@ ghost use Rattle.std.specs.Prelude.{◌≡◌, ◌<◌, ◌≤◌, ◌+◌, [], 
 ghost use Rattle.mot_base.specs.Limits.{most_width};
 ghost use Rattle.plan_gates.specs.Gate.{width_at};
 ghost use Rattle.plan_gates.specs.Plan.{IsPlan};
-ghost use Rattle.gate_tasks.specs.Party.{kept_word, kept_vector, given_word, given_vector, width};
-ghost use Rattle.gate_tasks.specs.Payload.{word_bytes, vectors_bytes};
+ghost use Rattle.joint_run.specs.Party.{kept_word, kept_vector, given_word, given_vector, width};
+ghost use Rattle.joint_run.specs.Payload.{word_bytes, vectors_bytes};
 ghost use Rattle.gate_tasks.specs.Stage.{Serves};
 ghost use Rattle.gate_tasks.specs.ByValue.{stand};
 ghost use Rattle.gate_tasks.specs.Sending.{outs_by};

@@ -1,15 +1,13 @@
-//! What each party does at a gate of a plan, and what it sends.
+//! The stages of a gate at a party, and a gate as a task that waits for what it lacks.
 #![tactic(auto)]
 
 mod finish;
 mod gather;
 mod heard;
 mod input;
-mod laws;
 mod operand;
 mod outgoing;
 mod own;
-mod payload;
 mod sending;
 mod stage;
 mod step;
@@ -17,13 +15,13 @@ mod task;
 mod value;
 mod wires;
 
-pub use laws::{
-    a_party_follows, every_gate_recombines, one_joint_run, payloads_have_their_lengths,
-    payloads_have_their_shapes, payloads_read_back, tape_uses_never_meet,
+pub use joint_run::{
+    Own, a_party_follows, every_gate_recombines, one_joint_run, payloads_have_their_lengths,
+    payloads_have_their_shapes, payloads_read_back, tape_uses_never_meet, vector_in,
+    vector_payload, word_in, word_payload,
 };
 pub use outgoing::{Carried, Out, Outs};
-pub use own::{Env, Own, StageEnv};
-pub use payload::{vector_in, vector_payload, word_in, word_payload};
+pub use own::{Env, StageEnv};
 pub use stage::{StageOut, run_stage};
 pub use step::{Need, Step};
 pub use task::GateTask;

@@ -4,7 +4,7 @@ ghost use Rattle.std.specs.Prelude.{◌≡◌, ℕ, true, slice_get, Some};
 ghost use Rattle.plan_gates.specs.Gate.{Word, Vector, width_at};
 ghost use Rattle.boolean_gmw.specs.Shares.{triple_of};
 ghost use Rattle.plan_gates.specs.Plan.{IsPlan};
-ghost use Rattle.gate_tasks.specs.Party.{triple, bit_triple, width};
+ghost use Rattle.joint_run.specs.Party.{triple, bit_triple, width};
 ghost use Rattle.gate_tasks.specs.Stage.{Serves, AreOperands, operands_of};
 ghost use Rattle.gate_tasks.specs.ByValue.{kind_in, stand, taken_at, keeps_width, is_product, is_conjunction, word_at, vector_at};
 

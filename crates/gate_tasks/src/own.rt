@@ -2,23 +2,10 @@
 
 use crate::value::Value;
 use crate::wires::Wires;
-use circuit_tables::Values;
 use dealer_files::DealerPart;
+use joint_run::Own;
 use message_demux::Inbox;
-use mot_base::{Party, Seed};
 use plan_gates::Plan;
-use share_types::Needs;
-
-/// What a party brings beside its part of a deal: its number, the seed of its tape, its input values, the session, and
-/// from which record of each kind on the run uses the part.
-#[derive(Debug, Drop)]
-pub struct Own {
-    pub me: Party,
-    pub seed: Seed,
-    pub inputs: Values,
-    pub session: u32,
-    pub bases: Needs,
-}
 
 /// A party's place at a gate of a plan.
 #[derive(Clone, Copy)]

@@ -3,8 +3,8 @@
 ghost use Rattle.std.specs.Prelude.{◌≡◌, ◌<◌, List, Some, None, slice_get, option_map, IfOk, IfSome, IsSome, OnErr};
 ghost use Rattle.plan_gates.specs.Gate.{Gate};
 ghost use Rattle.plan_gates.specs.Messages.{stages, awaits};
-ghost use Rattle.gate_tasks.specs.Party as party;
-ghost use Rattle.gate_tasks.specs.Party.{Rounds};
+ghost use Rattle.joint_run.specs.Party as party;
+ghost use Rattle.joint_run.specs.Party.{Rounds};
 ghost use Rattle.gate_tasks.specs.Stage.{hand_in, operands_at, IsOf, IsStage, Gives, Serves};
 ghost use Rattle.gate_tasks.specs.Task.{new_task, place_at, held_values, payloads_at, lacking, need_of, value_done, HasRun, HoldTypes, ExpectsAll};
 

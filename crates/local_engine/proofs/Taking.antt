@@ -31,7 +31,7 @@ use Rattle.gate_plan.specs.Blocks.{Lowered, wire_among}
 use Rattle.gate_plan.specs.Lowering.{Source, block_of, block_at, source_of, is_keys, wire_handled, width_handled, lowered_to}
 use Rattle.gate_plan.specs.Bristol.{bit_gate, input_gates, kind_gates, gates_made, wired_before, output_gates}
 use Rattle.gate_plan.proofs.BuiltLemmas.{handled_own}
-use Rattle.gate_tasks.specs.Honest.{Taken, taken_by}
+use Rattle.joint_run.specs.Honest.{Taken, taken_by}
 use Rattle.gate_tasks.specs.Stage.{taken_from}
 use Rattle.local_run.specs.Inputs.{TakesFrom}
 use Rattle.local_engine.specs.Inputs.{MixedPlansTakeInputs, BristolPlansTakeInputs}

@@ -3,7 +3,7 @@ use Rattle.std.proofs.Common.{◌≡◌, ℕ, ◌+◌, ◌<◌, ◌^◌, List, �
 use Rattle.std.specs.Prelude.{slice_get, get_or}
 use Rattle.turn_core.specs.declared.edge.Edge.{Edge}
 use Rattle.plan_gates.specs.Plan.{Gates, IsPlan}
-use Rattle.gate_tasks.proofs.Grown.{there_is}
+use Rattle.joint_run.proofs.Grown.{there_is}
 use Rattle.local_run.specs.declared.item.Item.{Item}
 use Rattle.local_run.specs.declared.item.Load.{Load}
 use Rattle.local_run.specs.Items.{all_items, IsItem}

@@ -10,8 +10,8 @@ use Rattle.gate_tasks.specs.declared.stage.StageOut.{StageOut}
 use Rattle.gate_tasks.specs.declared.value.Value.{Value}
 use Rattle.gate_tasks.specs.declared.outgoing.Out.{Out}
 use Rattle.mot_base.specs.declared.Party.{Party}
-use Rattle.gate_tasks.specs.Party.{Payload}
-use Rattle.gate_tasks.proofs.Grown.{there_is}
+use Rattle.joint_run.specs.Party.{Payload}
+use Rattle.joint_run.proofs.Grown.{there_is}
 use Rattle.local_run.specs.declared.item.Load.{Load}
 use Rattle.local_run.specs.declared.item.Load.TheVariants.{Wire, Kept, Message}
 use Rattle.local_run.specs.declared.cargo.Cargo.{Cargo}

@@ -12,10 +12,10 @@ use Rattle.task_pool.specs.Meanings.{AreMeanings, HasNoOutside}
 use Rattle.plan_gates.specs.Plan.{Gates, IsPlan}
 use Rattle.plan_gates.specs.Messages.{hears, message}
 use Rattle.gate_tasks.specs.declared.stage.StageOut.{StageOut}
-use Rattle.gate_tasks.specs.Party.{Own}
+use Rattle.joint_run.specs.Party.{Own}
 use Rattle.gate_tasks.specs.Stage.{operands_at, senders, receivers}
-use Rattle.gate_tasks.proofs.Grown.{there_is}
-use Rattle.gate_tasks.proofs.Unique.{one_joint_run}
+use Rattle.joint_run.proofs.Grown.{there_is}
+use Rattle.joint_run.proofs.Unique.{one_joint_run}
 use Rattle.local_run.specs.declared.item.Item.{Item}
 use Rattle.local_run.specs.declared.item.Load.{Load}
 use Rattle.local_run.specs.declared.item.Load.TheVariants.{Wire, Kept, Message}

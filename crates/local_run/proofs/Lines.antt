@@ -19,10 +19,10 @@ use Rattle.plan_gates.specs.Messages.{message, tells}
 use Rattle.plan_gates.proofs.SlotLemmas.{message_fits}
 use Rattle.gate_tasks.specs.declared.value.Value.{Value as ValueInMemory}
 use Rattle.gate_tasks.specs.declared.value.Value.TheVariants as value
-use Rattle.gate_tasks.specs.Party as party
-use Rattle.gate_tasks.specs.Party.{Own, Payload, Hand, Rounds, hand_at, word, vector, opened_word, opened_vector, gate_value, value_at, party_value}
-use Rattle.gate_tasks.specs.Joint.{Payloads, column, IsJoint}
-use Rattle.gate_tasks.specs.Honest.{own_at}
+use Rattle.joint_run.specs.Party as party
+use Rattle.joint_run.specs.Party.{Own, Payload, Hand, Rounds, hand_at, word, vector, opened_word, opened_vector, gate_value, value_at, party_value}
+use Rattle.joint_run.specs.Joint.{Payloads, column, IsJoint}
+use Rattle.joint_run.specs.Honest.{own_at}
 use Rattle.gate_tasks.specs.Stage.{value_of, receivers, IsOf, HasShape}
 use Rattle.local_run.specs.declared.item.Load.{Load}
 use Rattle.local_run.specs.declared.item.Load.TheVariants.{Wire, Kept, Message}

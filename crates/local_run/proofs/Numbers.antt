@@ -11,7 +11,7 @@ use Rattle.plan_gates.specs.Plan.{Gates, IsPlan}
 use Rattle.plan_gates.specs.Messages.{hears, stages}
 use Rattle.plan_gates.proofs.MessageLemmas.{heard_is}
 use Rattle.plan_gates.proofs.NeedsLemmas.{slice_get-each}
-use Rattle.gate_tasks.proofs.Grown.{got}
+use Rattle.joint_run.proofs.Grown.{got}
 use Rattle.local_run.specs.declared.item.Item.{Item}
 use Rattle.local_run.specs.Items.{item, listeners, items_of, items_before, first_item, all_items, number_of, IsItem}
 use Rattle.local_run.proofs.Lists.{at_left, at_right, passing_few, passing_found}

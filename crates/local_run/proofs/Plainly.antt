@@ -10,13 +10,13 @@ use Rattle.plan_gates.specs.Gate.{Kind, Gate, InA, ConstA, AddA, SubA, AddConstA
 use Rattle.plan_gates.specs.Plan.{Gates, IsPlan}
 use Rattle.plan_gates.specs.Plain.{Outside, plain_before, number_at}
 use Rattle.plan_gates.specs.Messages.{tells}
-use Rattle.gate_tasks.specs.Party as party
-use Rattle.gate_tasks.specs.Party.{Own, party_value}
-use Rattle.gate_tasks.specs.Joint.{Payloads, column, IsJoint}
-use Rattle.gate_tasks.specs.Honest.{own_at, AreHonest, AreInputs, RecombineBy}
-use Rattle.gate_tasks.proofs.Grown.{grown-get}
-use Rattle.gate_tasks.proofs.Recombining.{every_gate_recombines}
-use Rattle.gate_tasks.proofs.Unique.{one_joint_run}
+use Rattle.joint_run.specs.Party as party
+use Rattle.joint_run.specs.Party.{Own, party_value}
+use Rattle.joint_run.specs.Joint.{Payloads, column, IsJoint}
+use Rattle.joint_run.specs.Honest.{own_at, AreHonest, AreInputs, RecombineBy}
+use Rattle.joint_run.proofs.Grown.{grown-get}
+use Rattle.joint_run.proofs.Recombining.{every_gate_recombines}
+use Rattle.joint_run.proofs.Unique.{one_joint_run}
 use Rattle.local_run.specs.declared.report.PartyReport.{PartyReport}
 use Rattle.local_run.specs.Loads.{tells_at}
 use Rattle.local_run.specs.Report.{told_to, plain_told, AreReports}

@@ -8,8 +8,8 @@ use Rattle.turn_core.specs.declared.edge.TheConstants.{TERMINAL}
 use Rattle.turn_core.specs.Graph.{targets, sources, places_from, incoming}
 use Rattle.task_pool.specs.Meanings.{AreMeanings, ends_of}
 use Rattle.plan_gates.specs.Plan.{Gates, IsPlan}
-use Rattle.gate_tasks.specs.Party.{Own}
-use Rattle.gate_tasks.proofs.Grown.{map_map}
+use Rattle.joint_run.specs.Party.{Own}
+use Rattle.joint_run.proofs.Grown.{map_map}
 use Rattle.local_run.specs.declared.item.Item.{Item}
 use Rattle.local_run.specs.declared.item.Load.{Load}
 use Rattle.local_run.specs.declared.cargo.Cargo.{Cargo}

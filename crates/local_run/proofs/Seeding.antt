@@ -19,9 +19,9 @@ use Rattle.plan_gates.specs.Gate.{Kind, Gate, InA, InB, party_of}
 use Rattle.plan_gates.specs.Plan.{Gates, IsPlan}
 use Rattle.plan_gates.specs.Needs.{all_needs}
 use Rattle.plan_gates.proofs.NeedsLemmas.{slice_get-each}
-use Rattle.gate_tasks.specs.declared.own.Own.{Own as OwnInMemory}
-use Rattle.gate_tasks.specs.Party.{Own}
-use Rattle.gate_tasks.specs.Honest.{Taken, taken_by, own_at, no_part, AreInputs}
+use Rattle.joint_run.specs.declared.own.Own.{Own as OwnInMemory}
+use Rattle.joint_run.specs.Party.{Own}
+use Rattle.joint_run.specs.Honest.{Taken, taken_by, own_at, no_part, AreInputs}
 use Rattle.gate_tasks.specs.Stage.{own_with, taken_from, HasInput}
 use Rattle.local_run.specs.Inputs.{TakesInputs}
 use Rattle.local_run.specs.Job.{IsJob, ServeParty}

@@ -13,13 +13,13 @@ use Rattle.plan_gates.proofs.MessageLemmas.{any_here, heard_is}
 use Rattle.gate_tasks.specs.declared.value.Value.{Value as ValueInMemory}
 use Rattle.gate_tasks.specs.declared.outgoing.Out.{Out}
 use Rattle.gate_tasks.specs.declared.stage.StageOut.{StageOut}
-use Rattle.gate_tasks.specs.Party.{Own, Payload, Hand, Rounds, party_value, round_sends, value_at}
-use Rattle.gate_tasks.specs.Joint.{Payloads, column, sent_by, IsJoint}
-use Rattle.gate_tasks.specs.Honest.{own_at, nobody}
-use Rattle.gate_tasks.specs.Laws.{length_of}
+use Rattle.joint_run.specs.Party.{Own, Payload, Hand, Rounds, party_value, round_sends, value_at}
+use Rattle.joint_run.specs.Joint.{Payloads, column, sent_by, IsJoint}
+use Rattle.joint_run.specs.Honest.{own_at, nobody}
+use Rattle.joint_run.specs.Laws.{length_of}
 use Rattle.gate_tasks.specs.Stage.{value_of, gate_of, out_to, outs_in, outs_of, rounds_sent, receivers, is_last, value_on, formed_before, IsOf, HasShape}
-use Rattle.gate_tasks.proofs.Grown.{there_is}
-use Rattle.gate_tasks.proofs.Lengths.{payloads_have_their_lengths}
+use Rattle.joint_run.proofs.Grown.{there_is}
+use Rattle.joint_run.proofs.Lengths.{payloads_have_their_lengths}
 use Rattle.local_run.specs.declared.item.Load.{Load}
 use Rattle.local_run.specs.declared.item.Load.TheVariants.{Wire, Kept, Message}
 use Rattle.local_run.specs.declared.cargo.Cargo.{Cargo}

@@ -16,16 +16,16 @@ use Rattle.plan_gates.specs.Needs.{offset, needs_at, all_needs}
 use Rattle.plan_gates.specs.Messages.{message, messages_of, are_two, hears, stages}
 use Rattle.plan_gates.proofs.MessageLemmas.{heard_is}
 use Rattle.plan_gates.proofs.NeedsLemmas.{records_never_meet}
-use Rattle.gate_tasks.specs.declared.own.Own.{Own as OwnInMemory}
+use Rattle.joint_run.specs.declared.own.Own.{Own as OwnInMemory}
 use Rattle.gate_tasks.specs.declared.value.Value.{Value as ValueInMemory}
 use Rattle.gate_tasks.specs.declared.value.Value.TheVariants as code
 use Rattle.gate_tasks.specs.declared.stage.StageOut.{StageOut}
-use Rattle.gate_tasks.specs.Party as party
-use Rattle.gate_tasks.specs.Party.{Own, Hand, Rounds, hand, vector_share, width, before, silence, gate_sends, round_sends, wires_before}
-use Rattle.gate_tasks.specs.Joint.{column}
-use Rattle.gate_tasks.specs.Honest.{own_at, nobody}
+use Rattle.joint_run.specs.Party as party
+use Rattle.joint_run.specs.Party.{Own, Hand, Rounds, hand, vector_share, width, before, silence, gate_sends, round_sends, wires_before}
+use Rattle.joint_run.specs.Joint.{column}
+use Rattle.joint_run.specs.Honest.{own_at, nobody}
 use Rattle.gate_tasks.specs.Stage.{value_of, own_with, operands_of, operands_at, HasInput, IsOf, IsStage, Gives, Serves, AreOperands}
-use Rattle.gate_tasks.proofs.Grown.{there_is, got}
+use Rattle.joint_run.proofs.Grown.{there_is, got}
 use Rattle.local_run.specs.declared.item.Item.{Item}
 use Rattle.local_run.specs.declared.cargo.Cargo.{Cargo}
 use Rattle.local_run.specs.Cargo.{values_of, payloads_of, kept_after}

@@ -19,9 +19,9 @@ use Rattle.plan_gates.specs.declared.message.Message.{Message as Sent}
 use Rattle.plan_gates.specs.declared.draft.Sizes.{Sizes}
 use Rattle.plan_gates.specs.Messages.{messages_of}
 use Rattle.share_types.specs.Wires.{includes}
-use Rattle.gate_tasks.specs.Party.{Hand, Rounds, vector, width, given_word, bits_of, left_vector, right_vector, given_vector, gate_sends, silence, first}
-use Rattle.gate_tasks.specs.Payload.{vectors_bytes}
-use Rattle.gate_tasks.proofs.Bytes.{fits_bytes}
+use Rattle.joint_run.specs.Party.{Hand, Rounds, vector, width, given_word, bits_of, left_vector, right_vector, given_vector, gate_sends, silence, first}
+use Rattle.joint_run.specs.Payload.{vectors_bytes}
+use Rattle.joint_run.proofs.Bytes.{fits_bytes}
 
 -- ---- vectors in their bytes
 

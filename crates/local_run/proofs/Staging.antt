@@ -12,12 +12,12 @@ use Rattle.plan_gates.specs.Plan.{Gates, IsPlan}
 use Rattle.plan_gates.specs.Messages.{hears, message, awaits}
 use Rattle.plan_gates.proofs.MessageLemmas.{heard_is}
 use Rattle.gate_tasks.specs.declared.value.Value.{Value as ValueInMemory}
-use Rattle.gate_tasks.specs.Party as party
-use Rattle.gate_tasks.specs.Party.{Own, Payload, wires_before, party_value}
-use Rattle.gate_tasks.specs.Joint.{Payloads, column, IsJoint}
-use Rattle.gate_tasks.specs.Honest.{own_at}
+use Rattle.joint_run.specs.Party as party
+use Rattle.joint_run.specs.Party.{Own, Payload, wires_before, party_value}
+use Rattle.joint_run.specs.Joint.{Payloads, column, IsJoint}
+use Rattle.joint_run.specs.Honest.{own_at}
 use Rattle.gate_tasks.specs.Stage.{value_of, operands_at, senders, heard_in, IsStage, IsOf, HasShape, AreOperands, AreAwaited}
-use Rattle.gate_tasks.proofs.Grown.{got, grown-get}
+use Rattle.joint_run.proofs.Grown.{got, grown-get}
 use Rattle.local_run.specs.declared.item.Item.{Item}
 use Rattle.local_run.specs.declared.item.Load.{Load}
 use Rattle.local_run.specs.declared.item.Load.TheVariants.{Wire, Kept, Message}

@@ -6,7 +6,7 @@ use Rattle.turn_core.specs.Graph.{Graph, incoming, outgoing}
 use Rattle.task_pool.specs.Meanings.{AreMeanings, HasNoOutside, ends_of}
 use Rattle.plan_gates.specs.Plan.{Gates, IsPlan}
 use Rattle.gate_tasks.specs.declared.stage.StageOut.{StageOut}
-use Rattle.gate_tasks.specs.Party.{Own}
+use Rattle.joint_run.specs.Party.{Own}
 use Rattle.local_run.specs.declared.item.Item.{Item}
 use Rattle.local_run.specs.declared.item.Load.{Load}
 use Rattle.local_run.specs.declared.cargo.Cargo.{Cargo}

@@ -3,7 +3,7 @@ use Rattle.std.specs.Prelude.{ℕ, ◌≡◌, ◌≤◌, ◌+◌, List, slice_ge
 use Rattle.circuit_tables.specs.Table.{Input}
 use Rattle.plan_gates.specs.Gate.{Gate}
 use Rattle.plan_gates.specs.Plan.{Gates}
-use Rattle.gate_tasks.specs.Honest.{Taken, taken_by}
+use Rattle.joint_run.specs.Honest.{Taken, taken_by}
 use Rattle.gate_tasks.specs.Stage.{taken_from}
 
 -- what a gate takes is an input of the table, from the party whose value it is, and no bit beyond its width

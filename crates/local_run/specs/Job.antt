@@ -7,7 +7,7 @@ use Rattle.dealer_files.specs.Part.{Part, counts_of}
 use Rattle.plan_gates.specs.Gate.{Gate}
 use Rattle.plan_gates.specs.Plan.{Gates}
 use Rattle.plan_gates.specs.Needs.{all_needs}
-use Rattle.gate_tasks.specs.declared.own.Own.{Own}
+use Rattle.joint_run.specs.declared.own.Own.{Own}
 use Rattle.gate_tasks.specs.Stage.{HasInput}
 
 -- own data and a part of a deal serve a party of a plan: they are the party's, for the parties of the plan, the session has

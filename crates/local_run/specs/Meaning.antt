@@ -7,12 +7,12 @@ use Rattle.plan_gates.specs.declared.message.Message.{Message as Sent}
 use Rattle.plan_gates.specs.Gate.{Gate}
 use Rattle.plan_gates.specs.Plan.{Gates}
 use Rattle.plan_gates.specs.Messages.{message}
-use Rattle.gate_tasks.specs.declared.own.Own.{Own as OwnInMemory}
+use Rattle.joint_run.specs.declared.own.Own.{Own as OwnInMemory}
 use Rattle.gate_tasks.specs.declared.outgoing.Out.{Out}
 use Rattle.gate_tasks.specs.declared.stage.StageOut.{StageOut}
-use Rattle.gate_tasks.specs.Party.{Own, Payload, Hand, hand_at, party_value}
-use Rattle.gate_tasks.specs.Joint.{Payloads, column, IsJoint}
-use Rattle.gate_tasks.specs.Honest.{own_at}
+use Rattle.joint_run.specs.Party.{Own, Payload, Hand, hand_at, party_value}
+use Rattle.joint_run.specs.Joint.{Payloads, column, IsJoint}
+use Rattle.joint_run.specs.Honest.{own_at}
 use Rattle.gate_tasks.specs.Stage.{value_of, own_with, formed_before, Gives, IsOf, HasShape}
 use Rattle.local_run.specs.declared.item.Item.{Item}
 use Rattle.local_run.specs.declared.item.Load.{Load}

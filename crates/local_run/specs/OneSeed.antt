@@ -12,8 +12,8 @@ use Rattle.dealer_files.specs.Part.{Part, counts_of}
 use Rattle.dealer_files.specs.Honest.{HonestTogether}
 use Rattle.plan_gates.specs.Plan.{Gates, IsPlan}
 use Rattle.plan_gates.specs.Needs.{all_needs}
-use Rattle.gate_tasks.specs.declared.own.Own.{Own}
-use Rattle.gate_tasks.specs.Honest.{AreHonest, AreInputs}
+use Rattle.joint_run.specs.declared.own.Own.{Own}
+use Rattle.joint_run.specs.Honest.{AreHonest, AreInputs}
 use Rattle.local_run.specs.Inputs.{TakesInputs}
 use Rattle.local_run.specs.Job.{IsJob}
 use Rattle.local_run.specs.Meaning.{owns_with}

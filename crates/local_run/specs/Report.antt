@@ -9,10 +9,10 @@ use Rattle.plan_gates.specs.Gate.{width_at}
 use Rattle.plan_gates.specs.Plan.{Gates}
 use Rattle.plan_gates.specs.Plain.{Outside, plain_before}
 use Rattle.gate_tasks.specs.declared.value.Value.TheVariants as value
-use Rattle.gate_tasks.specs.Party as party
-use Rattle.gate_tasks.specs.Party.{Own, party_value}
-use Rattle.gate_tasks.specs.Joint.{Payloads, column}
-use Rattle.gate_tasks.specs.Honest.{own_at}
+use Rattle.joint_run.specs.Party as party
+use Rattle.joint_run.specs.Party.{Own, party_value}
+use Rattle.joint_run.specs.Joint.{Payloads, column}
+use Rattle.joint_run.specs.Honest.{own_at}
 use Rattle.gate_tasks.specs.Stage.{receivers}
 use Rattle.local_run.specs.declared.report.PartyReport.{PartyReport}
 use Rattle.local_run.specs.declared.item.Load.{Load}

@@ -3,8 +3,8 @@ use Rattle.std.specs.Prelude.{◌≡◌, List}
 use Rattle.turn_core.specs.Graph.{Graph}
 use Rattle.dealer_files.specs.Part.{Part}
 use Rattle.plan_gates.specs.Plan.{Gates, IsPlan}
-use Rattle.gate_tasks.specs.declared.own.Own.{Own as OwnInMemory}
-use Rattle.gate_tasks.specs.Party.{Own}
+use Rattle.joint_run.specs.declared.own.Own.{Own as OwnInMemory}
+use Rattle.joint_run.specs.Party.{Own}
 use Rattle.local_run.specs.declared.item.Item.{Item}
 use Rattle.local_run.specs.declared.item.Load.{Load}
 use Rattle.local_run.specs.Items.{all_items}

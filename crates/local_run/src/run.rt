@@ -3,8 +3,8 @@
 ghost use Rattle.std.specs.Prelude.{◌≡◌, ℕ, List, Some, map, slice_get, IfOk};
 ghost use Rattle.share_types.specs.declared.needs.Needs.{Needs};
 ghost use Rattle.plan_gates.specs.Plain.{Outside};
-ghost use Rattle.gate_tasks.specs.Joint.{Payloads, IsJoint};
-ghost use Rattle.gate_tasks.specs.Honest.{AreHonest, AreInputs};
+ghost use Rattle.joint_run.specs.Joint.{Payloads, IsJoint};
+ghost use Rattle.joint_run.specs.Honest.{AreHonest, AreInputs};
 ghost use Rattle.local_run.specs.declared.report.PartyReport as spec;
 ghost use Rattle.local_run.specs.Job.{IsJob};
 ghost use Rattle.local_run.specs.Meaning.{owns_with};

@@ -14,10 +14,10 @@ use Rattle.circuit_tables.specs.Table.{asked, joined_bits, AreCut}
 use Rattle.circuit_tables.proofs.CutLemmas.{cuts_once}
 use Rattle.dealer_files.specs.Part.{Part}
 use Rattle.plan_gates.specs.Needs.{all_needs}
-use Rattle.gate_tasks.specs.Party as party
-use Rattle.gate_tasks.specs.Party.{Own}
-use Rattle.gate_tasks.specs.Joint.{Payloads}
-use Rattle.gate_tasks.proofs.Unique.{one_joint_run}
+use Rattle.joint_run.specs.Party as party
+use Rattle.joint_run.specs.Party.{Own}
+use Rattle.joint_run.specs.Joint.{Payloads}
+use Rattle.joint_run.proofs.Unique.{one_joint_run}
 use Rattle.local_run.specs.declared.report.PartyReport.{PartyReport}
 use Rattle.local_run.specs.Report.{AreReports, IsReport}
 use Rattle.text_lines.specs.Text.{Text}

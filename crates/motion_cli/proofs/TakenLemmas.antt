@@ -25,11 +25,11 @@ use Rattle.dealer_maker.proofs.Honest.{honest}
 use Rattle.plan_gates.specs.Plan.{Gates, IsPlan}
 use Rattle.plan_gates.specs.Plain.{Outside, only}
 use Rattle.plan_gates.specs.Needs.{all_needs}
-use Rattle.gate_tasks.specs.Party.{Own}
-use Rattle.gate_tasks.specs.declared.own.Own.{Own as OwnInMemory}
-use Rattle.gate_tasks.specs.Joint.{Payloads, IsJoint}
-use Rattle.gate_tasks.specs.Honest.{no_part, AreHonest, AreInputs}
-use Rattle.gate_tasks.proofs.Unique.{one_joint_run}
+use Rattle.joint_run.specs.Party.{Own}
+use Rattle.joint_run.specs.declared.own.Own.{Own as OwnInMemory}
+use Rattle.joint_run.specs.Joint.{Payloads, IsJoint}
+use Rattle.joint_run.specs.Honest.{no_part, AreHonest, AreInputs}
+use Rattle.joint_run.proofs.Unique.{one_joint_run}
 use Rattle.local_run.specs.declared.report.PartyReport.{PartyReport}
 use Rattle.local_run.specs.Inputs.{TakesInputs}
 use Rattle.local_run.specs.Job.{IsJob}

@@ -9,7 +9,7 @@ use Rattle.circuit_tables.specs.Table.{Told}
 use Rattle.circuit_values.specs.Values as values
 use Rattle.text_lines.specs.Text.{Text}
 use Rattle.motion_cli.specs.declared.circuit.CircuitFault.{CircuitFault}
-use Rattle.gate_tasks.specs.Party.{Own}
+use Rattle.joint_run.specs.Party.{Own}
 use Rattle.motion_cli.specs.Circuits.{Circuit, Reads, FirstFault, inputs_of, parties_of, gates_of, is_built, plan_of, IsPlain, notation_of}
 use Rattle.motion_cli.specs.Dealer.{part_names, TakesParts}
 use Rattle.motion_cli.specs.Outcome.{Outcome, reported, line, at_line, file_refused, circuit_refused, values_refused}

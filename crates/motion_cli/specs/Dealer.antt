@@ -13,7 +13,7 @@ use Rattle.dealer_files.specs.Checks.{IsFirstFault}
 use Rattle.dealer_files.specs.Laws.{IsOfNumbers}
 use Rattle.dealer_maker.specs.Draws.{parts_drawn}
 use Rattle.plan_gates.specs.Needs.{all_needs}
-use Rattle.gate_tasks.specs.Honest.{no_part}
+use Rattle.joint_run.specs.Honest.{no_part}
 use Rattle.text_lines.specs.Text.{Text}
 use Rattle.motion_cli.specs.declared.dealer.Field.{Field}
 use Rattle.motion_cli.specs.declared.dealer.Field.TheVariants.{Parties, Party, Id, Mult, Bit, Shared, Key}

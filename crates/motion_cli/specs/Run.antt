@@ -5,8 +5,8 @@ use Rattle.cli_words.specs.Request.{LocalRequest}
 use Rattle.circuit_tables.specs.Table.{Output, Told, asked, joined_bits, AreCut}
 use Rattle.dealer_files.specs.Part.{Part}
 use Rattle.dealer_files.specs.Honest.{HonestTogether}
-use Rattle.gate_tasks.specs.Party.{Own}
-use Rattle.gate_tasks.specs.Joint.{Payloads, IsJoint}
+use Rattle.joint_run.specs.Party.{Own}
+use Rattle.joint_run.specs.Joint.{Payloads, IsJoint}
 use Rattle.local_run.specs.declared.report.PartyReport.{PartyReport}
 use Rattle.local_run.specs.OneSeed.{owns_of}
 use Rattle.local_run.specs.Meaning.{owns_with}

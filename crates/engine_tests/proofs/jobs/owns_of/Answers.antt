@@ -1,7 +1,7 @@
 use Rattle.std.proofs.Common.{◌≡◌, List, Some, None, subst}
 use Rattle.std.specs.Prelude.{slice_get}
 use Rattle.circuit_tables.specs.Values.{HaveWidths}
-use Rattle.gate_tasks.specs.declared.own.Own.{Own}
+use Rattle.joint_run.specs.declared.own.Own.{Own}
 use Rattle.engine_tests.proofs.Places.{pushed}
 use Rattle.engine_tests.proofs.jobs.owns_of.Goals as goal
 

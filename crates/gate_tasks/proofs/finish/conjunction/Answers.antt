@@ -1,7 +1,7 @@
 use Rattle.std.proofs.Common.{◌<◌, ◌≤◌, ◌+◌, ◌*◌, ◌^◌, length, subst, sym, ◌∙◌, arith}
 use Rattle.std.specs.Prelude.{All}
 use Rattle.message_demux.specs.Slots.{vector_bytes}
-use Rattle.gate_tasks.specs.Payload.{vector_in}
+use Rattle.joint_run.specs.Payload.{vector_in}
 use Rattle.gate_tasks.proofs.Operands.{conjunction_is}
 use Rattle.gate_tasks.proofs.Fitting.{vectors_inside, vectors_small}
 use Rattle.gate_tasks.proofs.finish.conjunction.Goals as goal

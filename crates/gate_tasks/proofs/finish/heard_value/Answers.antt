@@ -3,8 +3,8 @@ use Rattle.std.specs.Prelude.{All, ◌==◌}
 use Rattle.message_demux.specs.Slots.{vector_bytes}
 use Rattle.plan_gates.specs.Gate.{InA, InB, OutA, OutB, width_at, word}
 use Rattle.mot_base.specs.Limits.{most_width}
-use Rattle.gate_tasks.specs.Party.{Payload, WordShare, VectorShare, kept_word, kept_vector, width}
-use Rattle.gate_tasks.specs.Payload.{word_in, vector_in}
+use Rattle.joint_run.specs.Party.{Payload, WordShare, VectorShare, kept_word, kept_vector, width}
+use Rattle.joint_run.specs.Payload.{word_in, vector_in}
 use Rattle.gate_tasks.specs.ByValue.{keeps_width, hears_at, stand, kind_in, gives_of, IsGiven, value_of_stage}
 use Rattle.gate_tasks.proofs.Operands.{wide_at, its_width, word_width}
 use Rattle.gate_tasks.proofs.Fitting.{words_inside, vectors_inside, vectors_small, input_alone, one_payload, first_is}

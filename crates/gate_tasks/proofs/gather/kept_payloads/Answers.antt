@@ -3,7 +3,7 @@ use Rattle.std.specs.Prelude.{is_some}
 use Rattle.std.specs.FinMap as map
 use Rattle.plan_gates.specs.declared.message.Message.{Message}
 use Rattle.plan_gates.specs.Messages.{message}
-use Rattle.gate_tasks.specs.Party.{Payload}
+use Rattle.joint_run.specs.Party.{Payload}
 use Rattle.gate_tasks.specs.Task.{option_list, slot_from}
 use Rattle.gate_tasks.proofs.Gathered.{gathered_more, gathered_none, mapped_some, fit_more, fit_none}
 use Rattle.gate_tasks.proofs.gather.kept_payloads.Goals as goal

@@ -7,11 +7,11 @@ use Rattle.share_types.specs.Sums.{xor_to}
 use Rattle.share_types.specs.declared.bits.Bits.{Bits}
 use Rattle.share_types.proofs.BitsLemmas.{number-cut}
 use Rattle.plan_gates.specs.Gate.{width_at}
-use Rattle.gate_tasks.specs.Payload.{vectors_bytes}
-use Rattle.gate_tasks.specs.Party.{given_vector}
+use Rattle.joint_run.specs.Payload.{vectors_bytes}
+use Rattle.joint_run.specs.Party.{given_vector}
 use Rattle.gate_tasks.specs.ByValue.{stand}
 use Rattle.gate_tasks.specs.Sending.{payload_of}
-use Rattle.gate_tasks.proofs.Grown.{there_is}
+use Rattle.joint_run.proofs.Grown.{there_is}
 use Rattle.gate_tasks.proofs.Operands.{wide_in, its_width}
 use Rattle.gate_tasks.proofs.Giving.{same_length, field_at, own_share, given_share, outs_same, is_other}
 use Rattle.gate_tasks.proofs.input.give_vector.Goals as goal

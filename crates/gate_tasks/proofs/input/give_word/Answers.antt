@@ -4,10 +4,10 @@ use Rattle.share_types.specs.Sums.{word_difference, total, sum_to}
 use Rattle.share_types.specs.Bits.{number}
 use Rattle.std.specs.Vec.{vec_len}
 use Rattle.share_types.proofs.BitsLemmas.{number-cut}
-use Rattle.gate_tasks.specs.Payload.{word_bytes}
-use Rattle.gate_tasks.specs.Party.{given_word}
+use Rattle.joint_run.specs.Payload.{word_bytes}
+use Rattle.joint_run.specs.Party.{given_word}
 use Rattle.gate_tasks.specs.ByValue.{stand}
-use Rattle.gate_tasks.proofs.Grown.{got}
+use Rattle.joint_run.proofs.Grown.{got}
 use Rattle.gate_tasks.proofs.Giving.{total_others, cut_word, outs_same, is_other}
 use Rattle.gate_tasks.proofs.input.give_word.Goals as goal
 use Rattle.mot_base.proofs.Lists.{index_at as got_index}

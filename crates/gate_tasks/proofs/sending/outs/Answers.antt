@@ -4,7 +4,7 @@ use Rattle.std.proofs.lemmas.List.{map-append}
 use Rattle.share_types.specs.Sums.{each}
 use Rattle.plan_gates.specs.declared.message.Message.{Message}
 use Rattle.plan_gates.specs.Messages.{message}
-use Rattle.gate_tasks.specs.Party.{Payload}
+use Rattle.joint_run.specs.Party.{Payload}
 use Rattle.gate_tasks.specs.Sending.{out_by, payload_for}
 use Rattle.gate_tasks.specs.declared.outgoing.Out.{Out}
 use Rattle.gate_tasks.proofs.Gathered.{one_more, one_not, mapped_some}

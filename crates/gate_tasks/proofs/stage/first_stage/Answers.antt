@@ -1,6 +1,6 @@
 use Rattle.std.proofs.Common.{Some, None, List, sym, ◌∙◌, ap, []}
 use Rattle.std.specs.Prelude.{option_map, if◌then◌else◌}
-use Rattle.gate_tasks.specs.Party.{Value, Payload}
+use Rattle.joint_run.specs.Party.{Value, Payload}
 use Rattle.gate_tasks.specs.Stage.{value_of}
 use Rattle.gate_tasks.specs.ByValue.{kind_in, stand, value_of_stage}
 use Rattle.gate_tasks.specs.Sending.{carried_with}

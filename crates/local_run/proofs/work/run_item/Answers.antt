@@ -1,7 +1,7 @@
 use Rattle.std.proofs.Common.{◌<◌, ℕ, length, sym, subst, arith}
 use Rattle.plan_gates.specs.Messages.{awaits}
 use Rattle.gate_tasks.specs.Stage.{AreAwaited}
-use Rattle.gate_tasks.proofs.Grown.{there_is}
+use Rattle.joint_run.proofs.Grown.{there_is}
 use Rattle.std.specs.List.{flat_map}
 use Rattle.local_run.specs.Cargo.{payloads_of}
 use Rattle.local_run.specs.Meaning.{owns_with}

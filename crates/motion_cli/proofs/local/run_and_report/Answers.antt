@@ -2,7 +2,7 @@ use Rattle.std.proofs.Common.{◌≡◌, ◌≤◌, List, length, refl, ap, sym,
 use Rattle.std.specs.Prelude.{string_bytes}
 use Rattle.std.proofs.lemmas.Result.{IfOk-weaker}
 use Rattle.mot_base.specs.Limits.{most_parties}
-use Rattle.gate_tasks.specs.Party.{Own}
+use Rattle.joint_run.specs.Party.{Own}
 use Rattle.local_run.specs.Meaning.{owns_with}
 use Rattle.local_run.specs.OneSeed.{owns_of}
 use Rattle.motion_cli.specs.Circuits.{circuit_of, inputs_of, parties_of}

@@ -1,6 +1,6 @@
 use Rattle.std.proofs.Common.{◌≡◌, ◌<◌, ℕ, length, subst, arith}
 use Rattle.gate_tasks.specs.Task.{ExpectsAll}
-use Rattle.gate_tasks.proofs.Grown.{there_is}
+use Rattle.joint_run.proofs.Grown.{there_is}
 use Rattle.local_run.proofs.Serving.{serves}
 use Rattle.engine_tests.proofs.seat.Seat.poll.Goals as goal
 use Rattle.mot_base.proofs.Lists.{read_at as read_there}

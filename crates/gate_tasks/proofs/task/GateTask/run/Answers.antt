@@ -1,6 +1,6 @@
 use Rattle.std.proofs.Common.{List, None, ◌≡◌, sym, ◌∙◌, ap, subst}
 use Rattle.plan_gates.specs.Messages.{awaits}
-use Rattle.gate_tasks.specs.Party.{Payload}
+use Rattle.joint_run.specs.Party.{Payload}
 use Rattle.gate_tasks.specs.Stage.{AreOperands, AreAwaited}
 use Rattle.gate_tasks.specs.Task.{lacking, HoldTypes, ExpectsAll, Task, payloads_at}
 use Rattle.gate_tasks.specs.declared.value.Value.{Value as ValueInMemory}

@@ -1,5 +1,0 @@
-use Rattle.gate_tasks.proofs.Uses.{uses_never_meet}
-use Rattle.gate_tasks.proofs.laws.tape_uses_never_meet.Goals as goal
-
-pub returns : goal.returns
-returns c = uses_never_meet

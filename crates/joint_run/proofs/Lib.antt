@@ -1,0 +1,14 @@
+pub mod Causal
+pub mod Unique
+pub mod Bytes
+pub mod Grown
+pub mod Triples
+pub mod Sharing
+pub mod Run
+pub mod WordsRight
+pub mod VectorsRight
+pub mod Recombining
+pub mod Narrow
+pub mod Lengths
+pub mod Uses
+pub mod Following

@@ -1,0 +1,6 @@
+pub mod Payload
+pub mod Party
+pub mod Joint
+pub mod Honest
+pub mod Laws
+pub mod Uses
