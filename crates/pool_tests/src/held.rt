@@ -24,8 +24,8 @@ static EDGES: [(u32, u32); 8] = [
     (7, TERMINAL),
 ];
 
-/// Holds the item that enters after so many others until so many have left, and tells where that did not come to
-/// pass.
+/// Holds the item that enters after so many others until so many have left, and tells where that did not
+/// come to pass.
 #[derive(Drop)]
 struct Holding {
     before: u64,
@@ -81,8 +81,8 @@ fn work(alloc: Global) -> Option<Sums> {
     Some(Sums { dag })
 }
 
-/// Whether two workers run all items, while the one that enters after so many others waits until so many have
-/// left.
+/// Whether two workers run all items, while the one that enters after so many others waits until so many
+/// have left.
 fn is_shared<R: Threads + Sync>(rt: &R, alloc: Global, way: Way, before: u64, wanted: u64) -> bool {
     let Some(work) = work(alloc) else {
         return false;
@@ -96,8 +96,8 @@ fn is_shared<R: Threads + Sync>(rt: &R, alloc: Global, way: Way, before: u64, wa
         && gate.is_served()
 }
 
-// all but the held one and the one after it: the other worker runs what it made ready, and steals from the held
-// worker
+// all but the held one and the one after it: the other worker runs what it made ready, and steals from
+// the held worker
 #[test]
 fn other_items_leave_first(rt: HostRuntime) {
     let is_right = is_shared(&rt, rt.alloc(), Way::Pool, 0, 6);

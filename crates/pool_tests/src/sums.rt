@@ -1,6 +1,6 @@
 //! A small work, and what is told of its runs.
 
-ghost use Rattle.std.specs.Prelude.{◌≡◌, ◌≤◌, true};
+ghost use Rattle.std.specs.Prelude.{◌≡◌, true};
 ghost use Rattle.task_pool.specs.Meanings.{HasNoOutside};
 
 use mot_base::{NoMemory, Turnstile};
@@ -10,8 +10,8 @@ use std::thread::Threads;
 use task_pool::Work;
 use turn_core::{Dag, OUTSIDE};
 
-/// An item at which no edge ends sends 4 more than its number along each of its edges, and any other the sum of
-/// what came to it.
+/// An item at which no edge ends sends 4 more than its number along each of its edges, and any other the
+/// sum of what came to it.
 #[derive(Drop)]
 pub(crate) struct Sums {
     pub dag: Dag,

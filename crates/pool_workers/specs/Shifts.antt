@@ -7,6 +7,7 @@ use Rattle.atomic_table.specs.Table.{State}
 use Rattle.atomic_table.specs.Seated.{TableId}
 use Rattle.atomic_table.specs.declared.shared.Seat.{Seat}
 use Rattle.turn_core.specs.declared.edge.Edge.{Edge}
+use Rattle.pool_workers.specs.declared.shift.Shift.{Shift}
 use Rattle.pool_workers.specs.declared.view.View.{View}
 use Rattle.pool_workers.specs.Sums.{times, target_at}
 use Rattle.pool_workers.specs.Slots.{Kept}
@@ -19,6 +20,11 @@ pub record HasWorked {E : Type 0} (edges : List Edge) (id : TableId) (s : Seat (
   pub idle : IsIdle edges s.me
   pub one : s.me.0.parts ≡ 1
   pub took : (x : ℕ) → times x ran ≡ times x s.me.0.took
+
+-- the same of a worker beside its hints, each of which is below the number of items
+abbrev pub IsShift : {E H : Type 0} → List Edge → TableId → ℕ → (H → ℕ) → Shift E H → Type 0
+IsShift edges id items bound s =
+    HasWorked edges id s.worker s.ran.items × (bound s.hints ≡ items)
 
 -- what each worker ran
 abbrev pub lists : List (Vec ℕ Global) → List (List ℕ)

@@ -1,4 +1,4 @@
-ghost use Rattle.std.specs.Prelude.{◌≡◌, ℕ, ◌<◌, ◌^◌, IfSome};
+ghost use Rattle.std.specs.Prelude.{◌≡◌, ℕ, ◌<◌, IfSome};
 
 /// Numbers of items that may be ready: a worker puts those that it made ready, and takes one to try next. A
 /// number is a hint: nothing is said of which come, how often, or whether they come at all.

@@ -1,7 +1,7 @@
-ghost use Rattle.std.specs.Prelude.{◌≡◌, ℕ, ◌+◌, ◌<◌, ◌≤◌, min, [], List, IfOk, OnOk, length, None};
+ghost use Rattle.std.specs.Prelude.{◌≡◌, ℕ, ◌+◌, ◌<◌, ◌≤◌, [], IfOk, OnOk, length};
 ghost use Rattle.atomic_table.specs.Table.{rest};
 ghost use Rattle.task_pool.specs.Meanings.{AreMeanings};
-ghost use Rattle.pool_workers.specs.Sums.{IsForward, times, missing, source_at, target_at};
+ghost use Rattle.pool_workers.specs.Sums.{IsForward, times, missing, source_at};
 ghost use Rattle.pool_workers.specs.Sums.{incoming_of, outgoing_of};
 ghost use Rattle.pool_workers.specs.Words.{all_parts, with_edge};
 ghost use Rattle.pool_workers.specs.Steps.{Holding, empties, with_edges, Agree, IsIdle, Tried};

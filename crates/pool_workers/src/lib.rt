@@ -1,6 +1,6 @@
-//! Works whose items several workers run side by side: as a pool in which a worker steals what others made
-//! ready, or in waves. The workers share a table, which has a word for each item, with the number of edges to it
-//! that are not given yet, and a slot for the value on each edge.
+//! Works whose items several workers run side by side: as a pool in which a worker steals what others
+//! made ready, or in waves. The workers share a table, which has a word for each item, with the number of
+//! edges to it that are not given yet, and a slot for the value on each edge.
 #![tactic(auto)]
 
 mod close;

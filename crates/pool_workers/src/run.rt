@@ -4,7 +4,7 @@ ghost use Rattle.task_pool.specs.Meanings.{AreMeanings, HasNoOutside, ends_of};
 ghost use Rattle.pool_workers.specs.Sums.{IsForward, once, times_in, incoming_of};
 ghost use Rattle.pool_workers.specs.Words.{all_parts};
 ghost use Rattle.pool_workers.specs.Steps.{Agree};
-ghost use Rattle.pool_workers.specs.Shifts.{HasWorked, lists};
+ghost use Rattle.pool_workers.specs.Shifts.{IsShift, lists};
 
 use crate::close::collect;
 use crate::collected::Collected;
@@ -22,13 +22,13 @@ use std::thread::Threads;
 use task_pool::Work;
 use turn_core::Dag;
 
-/// Runs all items of a graph by 1 to 16 workers side by side, and gives the values on the edges that end at no
-/// item, in the order of the edges, and what each worker ran. No edge comes from outside. The items that are
-/// ready at the start are dealt to the workers' deques in turn. A worker puts what it makes ready into its own
-/// deque, runs that empty, then tries to steal from each of the others once, and ends where it finds nothing.
-/// Where a thread cannot be started the caller does its work. After the workers have ended the caller runs what
-/// is left, in rising order. A worker passes the gate with each item. It waits for nobody but the workers that
-/// it started.
+/// Runs all items of a graph by 1 to 16 workers side by side, and gives the values on the edges that end
+/// at no item, in the order of the edges, and what each worker ran. No edge comes from outside. The items
+/// that are ready at the start are dealt to the workers' deques in turn. A worker puts what it makes
+/// ready into its own deque, runs that empty, then tries to steal from each of the others once, and ends
+/// where it finds nothing. Where a thread cannot be started the caller does its work. After the workers
+/// have ended the caller runs what is left, in rising order. A worker passes the gate with each item. It
+/// waits for nobody but the workers that it started.
 pub fn run_pool<W: Work + Sync, G: Turnstile + Sync, R: Threads + Sync>(
     rt: &R,
     alloc: Global,
@@ -103,8 +103,7 @@ pub(crate) fn begin_run<E: Drop, M: Meaning<E>, H: Hints + Drop>(
     ensures caller { IfOk result (λ t. (t.1.me.1 ≡ []) ×
         (t.1.me.0.parts + length hints.items ≡ all_parts) × (t.1.me.0.took ≡ []) × (t.1.me.0.gave ≡ [])) }
     ensures shifts { IfOk result (λ t. (length t.2.items ≡ length hints.items) ×
-        All (λ s. HasWorked M.edges t.0.shared.table_id s.worker s.ran.items ×
-        (H.bound s.hints ≡ M.items)) t.2.items) }
+        All (IsShift M.edges t.0.shared.table_id M.items H.bound) t.2.items) }
 {
     let words = words_at_start(alloc, dag)?;
     let (pool, mut caller) = open::<E, M>(alloc, words.as_slice(), dag.edges().len())?;
@@ -130,8 +129,7 @@ pub(crate) fn end_run<W: Work, M: Meaning<W::Edge>, G: Turnstile, H: Hints + Dro
     requires caller { (caller.me.1 ≡ []) × (caller.me.0.parts + length shifts.items ≡ all_parts) ×
         (caller.me.0.took ≡ []) × (caller.me.0.gave ≡ []) }
     requires workers { (1 ≤ length shifts.items) × (length shifts.items ≤ 16) }
-    requires worked { All (λ s. HasWorked M.edges pool.shared.table_id s.worker s.ran.items ×
-        (H.bound s.hints ≡ M.items)) shifts.items }
+    requires worked { All (IsShift M.edges pool.shared.table_id M.items H.bound) shifts.items }
     ensures ends { IfOk result (λ r.
         AreMeanings (W.means work.now) (incoming_of 4294967295 M.edges) r.ends.items) }
     ensures ran { IfOk result (λ r. (x : ℕ) → times_in x (lists r.ran.items) ≡ once (nat_lt x M.items)) }

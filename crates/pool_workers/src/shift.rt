@@ -3,7 +3,7 @@ ghost use Rattle.std.specs.List.{All};
 ghost use Rattle.pool_workers.specs.Sums.{IsForward, times, times_in, missing};
 ghost use Rattle.pool_workers.specs.Words.{all_parts};
 ghost use Rattle.pool_workers.specs.Steps.{Agree, IsIdle};
-ghost use Rattle.pool_workers.specs.Shifts.{HasWorked, lists};
+ghost use Rattle.pool_workers.specs.Shifts.{HasWorked, IsShift, lists};
 
 use crate::hints::{Hints, NoHints};
 use crate::item::try_item;
@@ -75,10 +75,8 @@ fn work_shift<W: Work, M: Meaning<W::Edge>, G: Turnstile, H: Hints + Drop>(
     requires work { ((W.graph work.now).items ≡ M.items) × ((W.graph work.now).edges ≡ M.edges) ×
         Agree M.means (W.means work.now) }
     requires table { pool.now.shared.table_id.words ≡ M.items + 1 }
-    requires worked { HasWorked M.edges pool.now.shared.table_id shift.worker shift.ran.items }
-    requires hints { H.bound shift.hints ≡ M.items }
-    ensures { IfOk result (λ s. HasWorked M.edges pool.now.shared.table_id s.worker s.ran.items ×
-        (H.bound s.hints ≡ M.items)) }
+    requires shift { IsShift M.edges pool.now.shared.table_id M.items H.bound shift }
+    ensures { IfOk result (IsShift M.edges pool.now.shared.table_id M.items H.bound) }
 {
     let Shift {
         mut worker,
@@ -195,8 +193,7 @@ pub(crate) fn hire_all<E: Drop, M: Meaning<E>, H: Hints + Drop>(
     ensures view { OnOk result ((caller.new.me.0.parts + length hints.items ≡ caller.old.me.0.parts) ×
         (caller.new.me.0.took ≡ caller.old.me.0.took) × (caller.new.me.0.gave ≡ caller.old.me.0.gave)) }
     ensures shifts { IfOk result (λ shifts. (length shifts.items ≡ length hints.items) ×
-        All (λ s. HasWorked M.edges pool.now.shared.table_id s.worker s.ran.items ×
-        (H.bound s.hints ≡ M.items)) shifts.items) }
+        All (IsShift M.edges pool.now.shared.table_id M.items H.bound) shifts.items) }
 {
     let mut shifts = Vec::with_capacity(alloc, hints.len())?;
     while let Some(end) = hints.pop() {
@@ -221,8 +218,7 @@ pub(crate) fn take_in_all<E: Drop, M: Meaning<E>, H: Hints + Drop>(
         (pool.now.shared.table_id.words ≡ M.items + 1) }
     requires idle { IsIdle M.edges caller.old.me }
     requires none { (caller.old.me.0.took ≡ []) }
-    requires worked { All (λ s. HasWorked M.edges pool.now.shared.table_id s.worker s.ran.items ×
-        (H.bound s.hints ≡ M.items)) shifts.items }
+    requires worked { All (IsShift M.edges pool.now.shared.table_id M.items H.bound) shifts.items }
     ensures table { OnOk result (caller.new.table_id ≡ caller.old.table_id) }
     ensures idle { OnOk result (IsIdle M.edges caller.new.me ×
         (caller.new.me.0.parts ≡ caller.old.me.0.parts + length shifts.items)) }
@@ -260,12 +256,10 @@ where
     requires work { ((W.graph work.now).items ≡ M.items) × ((W.graph work.now).edges ≡ M.edges) ×
         Agree M.means (W.means work.now) }
     requires table { pool.now.shared.table_id.words ≡ M.items + 1 }
-    requires worked { All (λ s. HasWorked M.edges pool.now.shared.table_id s.worker s.ran.items ×
-        (H.bound s.hints ≡ M.items)) shifts.items }
+    requires worked { All (IsShift M.edges pool.now.shared.table_id M.items H.bound) shifts.items }
     ensures many { IfOk result (λ more. length more.items ≡ length shifts.items) }
-    ensures worked { IfOk result (λ more. All (λ s.
-        HasWorked M.edges pool.now.shared.table_id s.worker s.ran.items ×
-        (H.bound s.hints ≡ M.items)) more.items) }
+    ensures worked { IfOk result (λ more.
+        All (IsShift M.edges pool.now.shared.table_id M.items H.bound) more.items) }
 {
     let results = thread::map_vec(
         rt,
@@ -274,11 +268,8 @@ where
             requires { (M.items ≡ dag.now.items) × (M.edges ≡ dag.now.edges) × IsForward M.items M.edges ×
                 ((W.graph work.now).items ≡ M.items) × ((W.graph work.now).edges ≡ M.edges) ×
                 Agree M.means (W.means work.now) × (pool.now.shared.table_id.words ≡ M.items + 1) ×
-                HasWorked M.edges pool.now.shared.table_id shift.worker shift.ran.items ×
-                (H.bound shift.hints ≡ M.items) }
-            ensures { IfOk result (λ s.
-                HasWorked M.edges pool.entry.now.shared.table_id s.worker s.ran.items ×
-                (H.bound s.hints ≡ M.items)) }
+                IsShift M.edges pool.now.shared.table_id M.items H.bound shift }
+            ensures { IfOk result (IsShift M.edges pool.entry.now.shared.table_id M.items H.bound) }
         { work_shift(alloc, dag, pool, work, gate, shift) },
     )?;
     let shifts = all_well(alloc, pool, results)?;
@@ -291,12 +282,10 @@ fn all_well<E: Drop, M: Meaning<E>, H: Hints + Drop>(
     _pool: &Pool<E, M>,
     mut results: Vec<Result<Shift<E, H>, NoMemory>>,
 ) -> Result<Vec<Shift<E, H>>, NoMemory>
-    requires { All (λ r. IfOk r (λ s. HasWorked M.edges _pool.now.shared.table_id s.worker s.ran.items ×
-        (H.bound s.hints ≡ M.items))) results.items }
+    requires { All (λ r. IfOk r (IsShift M.edges _pool.now.shared.table_id M.items H.bound)) results.items }
     ensures many { IfOk result (λ shifts. length shifts.items ≡ length results.items) }
-    ensures worked { IfOk result (λ shifts. All (λ s.
-        HasWorked M.edges _pool.now.shared.table_id s.worker s.ran.items ×
-        (H.bound s.hints ≡ M.items)) shifts.items) }
+    ensures worked { IfOk result (λ shifts.
+        All (IsShift M.edges _pool.now.shared.table_id M.items H.bound) shifts.items) }
 {
     let mut shifts = Vec::with_capacity(alloc, results.len())?;
     while let Some(result) = results.pop() {

@@ -1,9 +1,9 @@
-ghost use Rattle.std.specs.Prelude.{◌≡◌, ℕ, ◌+◌, ◌<◌, ◌≤◌, length, nat_lt, IfOk, OnOk};
+ghost use Rattle.std.specs.Prelude.{◌≡◌, ℕ, ◌+◌, ◌<◌, ◌≤◌, length, nat_lt, IfOk};
 ghost use Rattle.std.specs.List.{All};
 ghost use Rattle.task_pool.specs.Meanings.{AreMeanings, HasNoOutside, ends_of};
 ghost use Rattle.pool_workers.specs.Sums.{IsForward, once, times_in, incoming_of};
 ghost use Rattle.pool_workers.specs.Steps.{Agree};
-ghost use Rattle.pool_workers.specs.Shifts.{HasWorked, lists};
+ghost use Rattle.pool_workers.specs.Shifts.{IsShift, lists};
 
 use crate::collected::Collected;
 use crate::deque::Limit;
@@ -19,12 +19,12 @@ use std::thread::Threads;
 use task_pool::Work;
 use turn_core::Dag;
 
-/// Runs all items of a graph by 1 to 16 workers in waves, and gives the values on the edges that end at no item,
-/// in the order of the edges, and what each worker ran. No edge comes from outside. The ready items are dealt to
-/// the workers in turn, which run them side by side; once all have ended, the items that they made ready are the
-/// next wave. Where a thread cannot be started the caller does its work. After the last wave the caller runs
-/// what is left, in rising order. A worker passes the gate with each item. It waits for nobody but the workers
-/// that it started.
+/// Runs all items of a graph by 1 to 16 workers in waves, and gives the values on the edges that end at
+/// no item, in the order of the edges, and what each worker ran. No edge comes from outside. The ready
+/// items are dealt to the workers in turn, which run them side by side; once all have ended, the items
+/// that they made ready are the next wave. Where a thread cannot be started the caller does its work.
+/// After the last wave the caller runs what is left, in rising order. A worker passes the gate with each
+/// item. It waits for nobody but the workers that it started.
 pub fn run_waves<W: Work + Sync, G: Turnstile + Sync, R: Threads + Sync>(
     rt: &R,
     alloc: Global,
@@ -116,11 +116,10 @@ where
         Agree M.means (W.means work.now) }
     requires table { pool.now.shared.table_id.words ≡ M.items + 1 }
     requires limit { L.limit ≡ M.items }
-    requires worked { All (λ s. HasWorked M.edges pool.now.shared.table_id s.worker s.ran.items ×
-        (L.limit ≡ M.items)) shifts.items }
+    requires worked { All (IsShift M.edges pool.now.shared.table_id M.items (λ _. L.limit)) shifts.items }
     ensures many { IfOk result (λ more. length more.items ≡ length shifts.items) }
-    ensures worked { IfOk result (λ more. All (λ s.
-        HasWorked M.edges pool.now.shared.table_id s.worker s.ran.items × (L.limit ≡ M.items)) more.items) }
+    ensures worked { IfOk result (λ more.
+        All (IsShift M.edges pool.now.shared.table_id M.items (λ _. L.limit)) more.items) }
 {
     let mut ready = ready_at_start(alloc, dag)?;
     for _wave in 0..dag.items() {
@@ -157,11 +156,10 @@ where
         Agree M.means (W.means work.now) }
     requires table { pool.now.shared.table_id.words ≡ M.items + 1 }
     requires below { All (λ item. item < L.limit) items.now }
-    requires worked { All (λ s. HasWorked M.edges pool.now.shared.table_id s.worker s.ran.items ×
-        (L.limit ≡ M.items)) shifts.items }
+    requires worked { All (IsShift M.edges pool.now.shared.table_id M.items (λ _. L.limit)) shifts.items }
     ensures many { IfOk result (λ more. length more.items ≡ length shifts.items) }
-    ensures worked { IfOk result (λ more. All (λ s.
-        HasWorked M.edges pool.now.shared.table_id s.worker s.ran.items × (L.limit ≡ M.items)) more.items) }
+    ensures worked { IfOk result (λ more.
+        All (IsShift M.edges pool.now.shared.table_id M.items (λ _. L.limit)) more.items) }
 {
     let Wave { busy, mut idle } = deal_wave(alloc, pool, shifts, items)?;
     let mut busy = run_shifts(rt, alloc, dag, pool, work, gate, busy)?;
@@ -184,14 +182,13 @@ fn deal_wave<E: Drop, M: Meaning<E>, L: Limit>(
     items: &[u32],
 ) -> Result<Wave<E, L>, NoMemory>
     requires below { All (λ item. item < L.limit) items.now }
-    requires worked { All (λ s. HasWorked M.edges _pool.now.shared.table_id s.worker s.ran.items ×
-        (L.limit ≡ M.items)) shifts.items }
+    requires worked { All (IsShift M.edges _pool.now.shared.table_id M.items (λ _. L.limit)) shifts.items }
     ensures many { IfOk result (λ wave.
         length wave.busy.items + length wave.idle.items ≡ length shifts.items) }
-    ensures busy { IfOk result (λ wave. All (λ s.
-        HasWorked M.edges _pool.now.shared.table_id s.worker s.ran.items × (L.limit ≡ M.items)) wave.busy.items) }
-    ensures idle { IfOk result (λ wave. All (λ s.
-        HasWorked M.edges _pool.now.shared.table_id s.worker s.ran.items × (L.limit ≡ M.items)) wave.idle.items) }
+    ensures busy { IfOk result (λ wave.
+        All (IsShift M.edges _pool.now.shared.table_id M.items (λ _. L.limit)) wave.busy.items) }
+    ensures idle { IfOk result (λ wave.
+        All (IsShift M.edges _pool.now.shared.table_id M.items (λ _. L.limit)) wave.idle.items) }
 {
     let workers = shifts.len();
     let mut busy = Vec::new(alloc);

@@ -1,6 +1,6 @@
 use Rattle.std.proofs.Common.{◌≡◌, ◌+◌, length}
 use Rattle.std.specs.List.{All}
-use Rattle.pool_workers.specs.Shifts.{HasWorked}
+use Rattle.pool_workers.specs.Shifts.{IsShift}
 use Rattle.pool_workers.proofs.shift.hire_all.Given as goal
 
 abbrev pub invariant-loop-end : goal.invariant-loop-end
@@ -12,7 +12,7 @@ invariant-loop-end g l = record {
   gave : l.caller.me.0.gave ≡ l.fn.caller.me.0.gave;
   over : length l.shifts.items + length l.hints.items ≡ length l.fn.hints.items;
   hints : All (λ h. g.H.Hints.bound h ≡ g.M.Meaning.items) l.hints.items;
-  worked : All (λ s. HasWorked g.M.Meaning.edges l.pool.shared.table_id s.worker s.ran.items × (g.H.Hints.bound s.hints ≡ g.M.Meaning.items)) l.shifts.items;
+  worked : All (IsShift g.M.Meaning.edges l.pool.shared.table_id g.M.Meaning.items g.H.Hints.bound) l.shifts.items;
 }
 
 abbrev pub decreases-loop-end : goal.decreases-loop-end
