@@ -41,4 +41,3 @@ at_row test (x ∷ all) (suc i) o h there = at_row test all i o (both_true (test
 
 pub each_operation : (test : Operation → Bool) → list_all test operations ≡ true → (o : Operation) → test o ≡ true
 each_operation test h o = let row = row_of o in at_row test operations row.0 o h row.1
-
