@@ -1,12 +1,15 @@
 //! What the engine reports of circuits whose outputs and digests are known.
 
+ghost use Rattle.std.specs.Prelude.{◌≤◌};
 ghost use Rattle.local_run.specs.Job.{IsJob};
 
 use crate::jobs::{ALONE, Circuit, Parts, Place, ready};
 use dealer_files::DealerPart;
 use hex::FromHex;
-use local_engine::{LocalJob, PartyReport, local_turns};
+use local_engine::{LocalJob, PartyReport, local_pool, local_turns};
+use mot_base::OpenGate;
 use std::alloc::Global;
+use std::thread::Threads;
 
 /// A run of two parties: what both are told, and the digest of each.
 struct Row {
@@ -200,8 +203,63 @@ fn wrong_row(alloc: Global, rows: &[Row]) -> Option<usize> {
     None
 }
 
+/// Whether the pool of so many workers reports what a row says.
+fn is_pool_run<R: Threads + Sync>(
+    rt: &R,
+    alloc: Global,
+    job: &LocalJob,
+    parts: &[DealerPart],
+    workers: u8,
+    row: &Row,
+) -> bool
+    requires job { IsJob job.now.plan job.now.owns.items parts.now }
+    requires workers { (1 ≤ workers) × (workers ≤ 16) }
+{
+    match local_pool(rt, alloc, job, parts, workers, &OpenGate) {
+        Ok(reports) => are_reports(&reports, row),
+        Err(_) => false,
+    }
+}
+
+fn is_pool_row<R: Threads + Sync>(rt: &R, alloc: Global, workers: u8, row: &Row) -> bool
+    requires { (1 ≤ workers) × (workers ≤ 16) }
+{
+    match ready(alloc, &row.circuit, row.values, &row.parts, row.place) {
+        Some((job, parts)) => is_pool_run(rt, alloc, &job, &parts, workers, row),
+        None => false,
+    }
+}
+
+/// The number of the first row of which the pool of so many workers reports something else.
+fn wrong_pool_row<R: Threads + Sync>(
+    rt: &R,
+    alloc: Global,
+    workers: u8,
+    rows: &[Row],
+) -> Option<usize>
+    requires { (1 ≤ workers) × (workers ≤ 16) }
+{
+    for (at, row) in rows.iter().enumerate() {
+        if !is_pool_row(rt, alloc, workers, row) {
+            return Some(at);
+        }
+    }
+    None
+}
+
 #[test]
 fn all_parties_together_have_these_outputs_and_digests(rt: HostRuntime) {
     let wrong = wrong_row(rt.alloc(), &ROWS);
     assert!(rt; wrong.is_none(), "row {wrong:?}");
+}
+
+#[test]
+fn no_number_of_workers_changes_a_report(rt: HostRuntime) {
+    let wrong = [
+        wrong_pool_row(&rt, rt.alloc(), 1, &ROWS),
+        wrong_pool_row(&rt, rt.alloc(), 2, &ROWS),
+        wrong_pool_row(&rt, rt.alloc(), 7, &ROWS),
+        wrong_pool_row(&rt, rt.alloc(), 16, &ROWS),
+    ];
+    assert!(rt; wrong == [None; 4], "rows {wrong:?}");
 }

@@ -1,6 +1,6 @@
-//! All parties on one thread.
+//! All parties in one process, on one thread or by several workers.
 
-ghost use Rattle.std.specs.Prelude.{◌≡◌, ℕ, List, Some, map, slice_get, IfOk};
+ghost use Rattle.std.specs.Prelude.{◌≡◌, ◌≤◌, ℕ, List, Some, map, slice_get, IfOk};
 ghost use Rattle.share_types.specs.declared.needs.Needs.{Needs};
 ghost use Rattle.plan_gates.specs.Plain.{Outside};
 ghost use Rattle.joint_run.specs.Joint.{Payloads, IsJoint};
@@ -15,8 +15,10 @@ use crate::job::LocalJob;
 use crate::report::{PartyReport, reports};
 use crate::work::LocalWork;
 use dealer_files::DealerPart;
-use mot_base::NoMemory;
+use mot_base::{NoMemory, Turnstile};
+use pool_workers::run_pool;
 use std::alloc::Global;
+use std::thread::Threads;
 use task_pool::run_turns;
 
 /// Runs all parties of a job, each with its part of a deal, one stage after another, and gives their reports in the order
@@ -46,5 +48,39 @@ pub fn local_turns(
     };
     let ends = run_turns(alloc, &graph.dag, &work)?;
     let reports = reports(alloc, &job.plan, &ends)?;
+    Ok(reports)
+}
+
+/// The same by 1 to 16 workers side by side, whatever order they run the stages in. A worker passes the gate with each
+/// stage. The call waits for nobody but the workers that it started, and where a thread cannot be started it does that
+/// work itself.
+pub fn local_pool<G: Turnstile + Sync, R: Threads + Sync>(
+    rt: &R,
+    alloc: Global,
+    job: &LocalJob,
+    parts: &[DealerPart],
+    workers: u8,
+    gate: &G,
+) -> Result<Vec<PartyReport>, NoMemory>
+    requires job { IsJob job.now.plan job.now.owns.items parts.now }
+    requires workers { (1 ≤ workers) × (workers ≤ 16) }
+    ensures joint { let owns = owns_with job.now.owns.items parts.now in
+        IfOk result (λ reports. (table : Payloads) → IsJoint job.now.plan owns table →
+        AreReports job.now.plan owns table reports.items) }
+    ensures plain { let owns = owns_with job.now.owns.items parts.now in
+        IfOk result (λ reports. (bases : Needs) (session : ℕ) (outside : Outside) →
+        AreHonest job.now.plan owns bases session → AreInputs job.now.plan owns outside.inputs →
+        (p : ℕ) (report : spec.PartyReport) → slice_get reports.items p ≡ Some report →
+        map (λ bits. bits.word) report.told ≡ plain_told job.now.plan outside p) }
+{
+    let _parties = job.plan.parties();
+    let graph = RunGraph::new(alloc, &job.plan)?;
+    let work = LocalWork {
+        job,
+        parts,
+        graph: &graph,
+    };
+    let collected = run_pool(rt, alloc, &graph.dag, &work, workers, gate)?;
+    let reports = reports(alloc, &job.plan, &collected.ends)?;
     Ok(reports)
 }
