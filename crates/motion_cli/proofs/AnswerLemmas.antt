@@ -1,5 +1,5 @@
 -- What the answer of a call says of its words and its files.
-use Rattle.std.proofs.Common.{ℕ, ◌≡◌, ◌≢◌, ◌⊎◌, inl, inr, List, [], Option, Some, None, refl, sym, ap, subst, ◌∙◌, arith}
+use Rattle.std.proofs.Common.{ℕ, ◌≡◌, ◌≢◌, ◌≤◌, ◌⊎◌, inl, inr, List, [], Option, Some, None, refl, sym, ap, subst, ◌∙◌, arith}
 use Rattle.mot_base.specs.Faults.{Rose}
 use Rattle.mot_base.specs.Files.{Holding}
 use Rattle.mot_base.specs.Sink.{with_more}
@@ -10,7 +10,7 @@ use Rattle.motion_cli.specs.declared.status.Status.TheVariants as status
 use Rattle.motion_cli.specs.Ending.{Outside, Writes, AreLeft, AreFirst, Ended, Wants, Asked, cut_status}
 use Rattle.motion_cli.specs.Outcome.{Outcome, code_of, memory, usage}
 use Rattle.motion_cli.specs.Outcome.Kind.{report, refusal}
-use Rattle.motion_cli.specs.Settled.{IsUsage, IsDone, IsComplete, IsStored}
+use Rattle.motion_cli.specs.Settled.{IsUsage, IsDone, IsComplete, IsStored, EndsWell}
 use Rattle.motion_cli.proofs.PartsLemmas.{all_first}
 use Rattle.motion_cli.proofs.ProgramLemmas.{usage_written}
 use Rattle.motion_cli.proofs.StepLemmas.{Refuses, Gives}
@@ -112,7 +112,7 @@ one_answered asks ends files fell was is o status (inl ran_out) written none = i
 one_answered asks ends files fell was is o status (inr (inl nothing)) written none = inl (nothing_written was is fell o status nothing.1 written)
 one_answered asks ends files fell was is o status (inr (inr (r, asked, end))) written none = absurd (none r asked)
 
-pub usage_exactly : {R : Type 0} (asks : R → Type 0) (ends : Option Holding → Type 0 → R → Outcome → Type 0)
+usage_exactly : {R : Type 0} (asks : R → Type 0) (ends : Option Holding → Type 0 → R → Outcome → Type 0)
     (files : R → List (Text × Text)) → IsSettled asks ends files → (before after : Outside) (status : ℕ) →
     Ended (Asked asks (ends before.held (Rose before.file_faults after.file_faults)) files) before after status → IsUsage asks status
 usage_exactly asks ends files settled before after status ended =
@@ -150,7 +150,7 @@ zero_answered {R} asks ends files settled told rose fell was is o status (inr (i
         by_status (inl whole) = (r, asked, o, gives.kind, gives.fair, whole.1)
         by_status (inr nine) = absurd (omega (arith, nine, zero))
 
-pub done_exactly : {R : Type 0} (asks : R → Type 0) (ends : Option Holding → Type 0 → R → Outcome → Type 0)
+done_exactly : {R : Type 0} (asks : R → Type 0) (ends : Option Holding → Type 0 → R → Outcome → Type 0)
     (files : R → List (Text × Text)) → IsSettled asks ends files → (before after : Outside) (status : ℕ) →
     Ended (Asked asks (ends before.held (Rose before.file_faults after.file_faults)) files) before after status →
     IsDone asks ends before after status
@@ -182,7 +182,7 @@ led asks ends files settled held rose fell was is o status (inr (inr (r, asks_r,
     let agree = settled.agree held rose request quiet o end came_too leads in
     inl (whole_or_cut was is fell end status still (subst (λ o. Writes was is fell o status) agree written))
 
-pub complete_exactly : {R : Type 0} (asks : R → Type 0) (ends : Option Holding → Type 0 → R → Outcome → Type 0)
+complete_exactly : {R : Type 0} (asks : R → Type 0) (ends : Option Holding → Type 0 → R → Outcome → Type 0)
     (files : R → List (Text × Text)) → IsSettled asks ends files → (before after : Outside) (status : ℕ) →
     Ended (Asked asks (ends before.held (Rose before.file_faults after.file_faults)) files) before after status →
     IsComplete asks ends before after status
@@ -276,10 +276,26 @@ left_by asks ends files settled told rose fell was is before after o status (inr
         by_status (inl zero) = λ one. (let e = zero.0 in omega (arith, e, one))
         by_status (inr nine) = λ one. omega (arith, nine, one)
 
-pub stored_exactly : {R : Type 0} (asks : R → Type 0) (ends : Option Holding → Type 0 → R → Outcome → Type 0)
+stored_exactly : {R : Type 0} (asks : R → Type 0) (ends : Option Holding → Type 0 → R → Outcome → Type 0)
     (files : R → List (Text × Text)) → IsSettled asks ends files → (before after : Outside) (status : ℕ) →
     Ended (Asked asks (ends before.held (Rose before.file_faults after.file_faults)) files) before after status →
     IsStored asks files before.held after.held status
 stored_exactly asks ends files settled before after status ended =
     left_by asks ends files settled before.held (Rose before.file_faults after.file_faults) (Rose before.out_faults after.out_faults)
     before.appended after.appended before.held after.held ended.outcome status ended.cause ended.written ended.left
+
+-- all that a call meets follows from how it ended
+pub ends_well : {R : Type 0} (asks : R → Type 0) (ends : Option Holding → Type 0 → R → Outcome → Type 0)
+    (files : R → List (Text × Text)) → IsSettled asks ends files → (before after : Outside) (status : ℕ) →
+    Ended (Asked asks (ends before.held (Rose before.file_faults after.file_faults)) files) before after status →
+    before.file_faults ≤ after.file_faults → before.out_faults ≤ after.out_faults →
+    EndsWell asks ends files before after status
+ends_well asks ends files settled before after status ended files_rise out_rises = record {
+  ended = ended;
+  usage = usage_exactly asks ends files settled before after status ended;
+  done = done_exactly asks ends files settled before after status ended;
+  complete = complete_exactly asks ends files settled before after status ended;
+  stored = stored_exactly asks ends files settled before after status ended;
+  files_never_fall = files_rise;
+  out_never_falls = out_rises;
+}

@@ -11,3 +11,4 @@ pub mod AnswerLemmas
 pub mod WordsLemmas
 pub mod PartsLemmas
 pub mod CircuitLemmas
+pub mod CallLemmas

@@ -1,10 +1,10 @@
 -- How words and files settle the way in which a call ends.
-use Rattle.std.specs.Prelude.{ℕ, ◌≡◌, ◌⊎◌, List, [], Option, None, Some}
+use Rattle.std.specs.Prelude.{ℕ, ◌≡◌, ◌≤◌, ◌⊎◌, List, [], Option, None, Some}
 use Rattle.mot_base.specs.Faults.{Rose}
 use Rattle.mot_base.specs.Files.{Holding}
 use Rattle.mot_base.specs.Sink.{with_more}
 use Rattle.text_lines.specs.Text.{Text}
-use Rattle.motion_cli.specs.Ending.{Outside, Leading, AreLeft, AreFirst}
+use Rattle.motion_cli.specs.Ending.{Outside, Leading, EndsAs, AreLeft, AreFirst}
 use Rattle.motion_cli.specs.Outcome.{Outcome, code_of}
 use Rattle.motion_cli.specs.Outcome.Kind.{report}
 
@@ -44,3 +44,15 @@ pub record IsStored {R : Type 0} (asks : R → Type 0) (files : R → List (Text
   pub all : (status ≡ 0) ⊎ (status ≡ 9) →
       (request : R) × asks request × (stored ≡ files request) × (torn ≡ None)
   pub none : status ≡ 1 → (stored ≡ []) × (torn ≡ None)
+
+-- All that a call of the program meets: it ended as its words lead to, and what follows from that of its status
+-- and its files. No count of faults falls.
+pub record EndsWell {R : Type 0} (asks : R → Type 0) (leads : Leading R) (files : R → List (Text × Text))
+    (before after : Outside) (status : ℕ) : Type 0 where
+  pub ended : EndsAs asks leads files before after status
+  pub usage : IsUsage asks status
+  pub done : IsDone asks leads before after status
+  pub complete : IsComplete asks leads before after status
+  pub stored : IsStored asks files before.held after.held status
+  pub files_never_fall : before.file_faults ≤ after.file_faults
+  pub out_never_falls : before.out_faults ≤ after.out_faults

@@ -6,10 +6,10 @@ ghost use Rattle.cli_words.specs.Grammar.{texts};
 ghost use Rattle.cli_words.specs.Request.{DealRequest, deal, request_of, plain_request, needs_request, deal_request, local_request};
 ghost use Rattle.motion_cli.specs.Coming.{Came, ReadCame};
 ghost use Rattle.motion_cli.specs.Commands.{RequestEnds, PlainEnds, NeedsEnds, DealEnds, LocalEnds, request_files};
-ghost use Rattle.motion_cli.specs.Ending.{EndsAs, outside, no_files};
+ghost use Rattle.motion_cli.specs.Ending.{outside, no_files};
 ghost use Rattle.motion_cli.specs.Parts.{deal_files};
 ghost use Rattle.motion_cli.specs.Refusal.{came_to};
-ghost use Rattle.motion_cli.specs.Settled.{IsUsage, IsDone, IsComplete, IsStored};
+ghost use Rattle.motion_cli.specs.Settled.{EndsWell};
 ghost use Rattle.motion_cli.specs.Words.{AsksFor, AsksPlain, AsksNeeds, AsksDeal, AsksLocal, NamesCommand, StoresNothing};
 
 use crate::commands::{needs_report, plain_report};
@@ -27,23 +27,12 @@ use std::alloc::Global;
 
 /// Does all that the program does with the words after its name, and answers the status that it ends with.
 pub fn motion<F: Files, S: Sink>(alloc: Global, words: &[String], files: &mut F, out: &mut S) -> u8
-    ensures ended { EndsAs (AsksFor (texts words.entry.now)) RequestEnds request_files
+    ensures ends { EndsWell (AsksFor (texts words.entry.now)) RequestEnds request_files
         (outside (F.holds files.old) (F.faults files.old) (S.appended out.old) (S.faults out.old))
         (outside (F.holds files.new) (F.faults files.new) (S.appended out.new) (S.faults out.new)) result }
-    ensures usage { IsUsage (AsksFor (texts words.entry.now)) result }
     ensures unnamed { ¬ (NamesCommand (texts words.entry.now)) → result ≡ 1 }
-    ensures done { IsDone (AsksFor (texts words.entry.now)) RequestEnds
-        (outside (F.holds files.old) (F.faults files.old) (S.appended out.old) (S.faults out.old))
-        (outside (F.holds files.new) (F.faults files.new) (S.appended out.new) (S.faults out.new)) result }
-    ensures complete { IsComplete (AsksFor (texts words.entry.now)) RequestEnds
-        (outside (F.holds files.old) (F.faults files.old) (S.appended out.old) (S.faults out.old))
-        (outside (F.holds files.new) (F.faults files.new) (S.appended out.new) (S.faults out.new)) result }
-    ensures stored { IsStored (AsksFor (texts words.entry.now)) request_files
-        (F.holds files.old) (F.holds files.new) result }
     ensures same { ((request : DealRequest) → ¬ (AsksFor (texts words.entry.now) (deal request))) →
         F.holds files.new ≡ F.holds files.old }
-    ensures files_never_fall { F.faults files.old ≤ F.faults files.new }
-    ensures out_never_falls { S.faults out.old ≤ S.faults out.new }
 {
     let read = read_words(alloc, offers(), words);
     let outcome = run(alloc, &read, files);
@@ -98,19 +87,10 @@ pub fn plain_command<F: Files, S: Sink>(
     files: &mut F,
     out: &mut S,
 ) -> u8
-    ensures ended { EndsAs (AsksPlain (texts words.entry.now)) PlainEnds no_files
-        (outside (F.holds files.old) (F.faults files.old) (S.appended out.old) (S.faults out.old))
-        (outside (F.holds files.new) (F.faults files.new) (S.appended out.new) (S.faults out.new)) result }
-    ensures usage { IsUsage (AsksPlain (texts words.entry.now)) result }
-    ensures done { IsDone (AsksPlain (texts words.entry.now)) PlainEnds
-        (outside (F.holds files.old) (F.faults files.old) (S.appended out.old) (S.faults out.old))
-        (outside (F.holds files.new) (F.faults files.new) (S.appended out.new) (S.faults out.new)) result }
-    ensures complete { IsComplete (AsksPlain (texts words.entry.now)) PlainEnds
+    ensures ends { EndsWell (AsksPlain (texts words.entry.now)) PlainEnds no_files
         (outside (F.holds files.old) (F.faults files.old) (S.appended out.old) (S.faults out.old))
         (outside (F.holds files.new) (F.faults files.new) (S.appended out.new) (S.faults out.new)) result }
     ensures same { F.holds files.new ≡ F.holds files.old }
-    ensures files_never_fall { F.faults files.old ≤ F.faults files.new }
-    ensures out_never_falls { S.faults out.old ≤ S.faults out.new }
 {
     let read = read_plain(alloc, offers(), words);
     let outcome = run_plain(alloc, &read, files);
@@ -142,19 +122,10 @@ pub fn needs_command<F: Files, S: Sink>(
     files: &mut F,
     out: &mut S,
 ) -> u8
-    ensures ended { EndsAs (AsksNeeds (texts words.entry.now)) NeedsEnds no_files
-        (outside (F.holds files.old) (F.faults files.old) (S.appended out.old) (S.faults out.old))
-        (outside (F.holds files.new) (F.faults files.new) (S.appended out.new) (S.faults out.new)) result }
-    ensures usage { IsUsage (AsksNeeds (texts words.entry.now)) result }
-    ensures done { IsDone (AsksNeeds (texts words.entry.now)) NeedsEnds
-        (outside (F.holds files.old) (F.faults files.old) (S.appended out.old) (S.faults out.old))
-        (outside (F.holds files.new) (F.faults files.new) (S.appended out.new) (S.faults out.new)) result }
-    ensures complete { IsComplete (AsksNeeds (texts words.entry.now)) NeedsEnds
+    ensures ends { EndsWell (AsksNeeds (texts words.entry.now)) NeedsEnds no_files
         (outside (F.holds files.old) (F.faults files.old) (S.appended out.old) (S.faults out.old))
         (outside (F.holds files.new) (F.faults files.new) (S.appended out.new) (S.faults out.new)) result }
     ensures same { F.holds files.new ≡ F.holds files.old }
-    ensures files_never_fall { F.faults files.old ≤ F.faults files.new }
-    ensures out_never_falls { S.faults out.old ≤ S.faults out.new }
 {
     let read = read_needs(alloc, offers(), words);
     let outcome = run_needs(alloc, &read, files);
@@ -186,20 +157,9 @@ pub fn deal_command<F: Files, S: Sink>(
     files: &mut F,
     out: &mut S,
 ) -> u8
-    ensures ended { EndsAs (AsksDeal (texts words.entry.now)) DealEnds deal_files
+    ensures { EndsWell (AsksDeal (texts words.entry.now)) DealEnds deal_files
         (outside (F.holds files.old) (F.faults files.old) (S.appended out.old) (S.faults out.old))
         (outside (F.holds files.new) (F.faults files.new) (S.appended out.new) (S.faults out.new)) result }
-    ensures usage { IsUsage (AsksDeal (texts words.entry.now)) result }
-    ensures done { IsDone (AsksDeal (texts words.entry.now)) DealEnds
-        (outside (F.holds files.old) (F.faults files.old) (S.appended out.old) (S.faults out.old))
-        (outside (F.holds files.new) (F.faults files.new) (S.appended out.new) (S.faults out.new)) result }
-    ensures complete { IsComplete (AsksDeal (texts words.entry.now)) DealEnds
-        (outside (F.holds files.old) (F.faults files.old) (S.appended out.old) (S.faults out.old))
-        (outside (F.holds files.new) (F.faults files.new) (S.appended out.new) (S.faults out.new)) result }
-    ensures stored { IsStored (AsksDeal (texts words.entry.now)) deal_files
-        (F.holds files.old) (F.holds files.new) result }
-    ensures files_never_fall { F.faults files.old ≤ F.faults files.new }
-    ensures out_never_falls { S.faults out.old ≤ S.faults out.new }
 {
     let read = read_deal(alloc, offers(), words);
     let outcome = run_deal(alloc, &read, files);
@@ -230,19 +190,10 @@ pub fn local_command<F: Files, S: Sink>(
     files: &mut F,
     out: &mut S,
 ) -> u8
-    ensures ended { EndsAs (AsksLocal (texts words.entry.now)) LocalEnds no_files
-        (outside (F.holds files.old) (F.faults files.old) (S.appended out.old) (S.faults out.old))
-        (outside (F.holds files.new) (F.faults files.new) (S.appended out.new) (S.faults out.new)) result }
-    ensures usage { IsUsage (AsksLocal (texts words.entry.now)) result }
-    ensures done { IsDone (AsksLocal (texts words.entry.now)) LocalEnds
-        (outside (F.holds files.old) (F.faults files.old) (S.appended out.old) (S.faults out.old))
-        (outside (F.holds files.new) (F.faults files.new) (S.appended out.new) (S.faults out.new)) result }
-    ensures complete { IsComplete (AsksLocal (texts words.entry.now)) LocalEnds
+    ensures ends { EndsWell (AsksLocal (texts words.entry.now)) LocalEnds no_files
         (outside (F.holds files.old) (F.faults files.old) (S.appended out.old) (S.faults out.old))
         (outside (F.holds files.new) (F.faults files.new) (S.appended out.new) (S.faults out.new)) result }
     ensures same { F.holds files.new ≡ F.holds files.old }
-    ensures files_never_fall { F.faults files.old ≤ F.faults files.new }
-    ensures out_never_falls { S.faults out.old ≤ S.faults out.new }
 {
     let read = read_local(alloc, offers(), words);
     let outcome = run_local(alloc, &read, files);

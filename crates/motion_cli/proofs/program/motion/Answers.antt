@@ -5,61 +5,24 @@ use Rattle.cli_words.specs.Request.{request_of}
 use Rattle.motion_cli.specs.Commands.{RequestEnds, request_files}
 use Rattle.motion_cli.specs.Ending.{outside}
 use Rattle.motion_cli.specs.Refusal.{came_to}
-use Rattle.motion_cli.specs.Words.{AsksFor, NamesCommand, StoresNothing}
-use Rattle.motion_cli.proofs.AnswerLemmas.{usage_exactly, done_exactly, complete_exactly, stored_exactly}
-use Rattle.motion_cli.proofs.ProgramLemmas.{ended_with, unnamed_is_usage}
+use Rattle.motion_cli.specs.Words.{NamesCommand, StoresNothing}
+use Rattle.motion_cli.proofs.CallLemmas.{call_ends_well}
+use Rattle.motion_cli.proofs.ProgramLemmas.{unnamed_is_usage}
 use Rattle.motion_cli.proofs.SettledLemmas.{request_settled}
-use Rattle.motion_cli.proofs.WordsLemmas.{none_asked, asked_is_named, not_dealt}
+use Rattle.motion_cli.proofs.WordsLemmas.{asked_is_named, not_dealt}
 use Rattle.motion_cli.proofs.program.motion.Goals as goal
 
-pub returns-clause-ended : goal.returns-clause-ended
-returns-clause-ended g c =
+pub returns-clause-ends : goal.returns-clause-ends
+returns-clause-ends g c =
     let old = c.args.files.now in
     let new = c.run-outcome.new.files in
-    let asked = IfOk-weaker c.read_words-read.result (λ words. Asks c.offers.result.now (texts c.args.words.now) (request_of words))
-    (λ words. AsksFor (texts c.args.words.now) (request_of words)) (λ words asks. (c.offers.result.now, c.offers.ensures, asks)) c.read_words-read.ensures.read in
-    ended_with request_of (AsksFor (texts c.args.words.now)) (RequestEnds (g.F.Files.holds old) (Rose (g.F.Files.faults old) (g.F.Files.faults new))) request_files
+    let read = c.read_words-read.ensures in
+    call_ends_well (λ r. r) request_of RequestEnds request_files c.offers.result.now (texts c.args.words.now)
+    (request_settled (texts c.args.words.now))
     (outside (g.F.Files.holds old) (g.F.Files.faults old) (g.S.Sink.appended c.args.out.now) (g.S.Sink.faults c.args.out.now))
     (outside (g.F.Files.holds new) (g.F.Files.faults new) (g.S.Sink.appended c.end.new.out) (g.S.Sink.faults c.end.new.out))
-    c.read_words-read.result (came_to c.run-outcome.result) c.end.result asked
-    (λ usage. none_asked c.offers.result.now (texts c.args.words.now) c.offers.ensures (c.read_words-read.ensures.refused usage))
-    c.run-outcome.ensures.came c.end.ensures.written
-
-pub returns-clause-usage : goal.returns-clause-usage
-returns-clause-usage g c =
-    let old = c.args.files.now in
-    let new = c.run-outcome.new.files in
-    usage_exactly (AsksFor (texts c.args.words.now)) RequestEnds request_files (request_settled (texts c.args.words.now))
-    (outside (g.F.Files.holds old) (g.F.Files.faults old) (g.S.Sink.appended c.args.out.now) (g.S.Sink.faults c.args.out.now))
-    (outside (g.F.Files.holds new) (g.F.Files.faults new) (g.S.Sink.appended c.end.new.out) (g.S.Sink.faults c.end.new.out))
-    c.end.result (returns-clause-ended g c)
-
-pub returns-clause-done : goal.returns-clause-done
-returns-clause-done g c =
-    let old = c.args.files.now in
-    let new = c.run-outcome.new.files in
-    done_exactly (AsksFor (texts c.args.words.now)) RequestEnds request_files (request_settled (texts c.args.words.now))
-    (outside (g.F.Files.holds old) (g.F.Files.faults old) (g.S.Sink.appended c.args.out.now) (g.S.Sink.faults c.args.out.now))
-    (outside (g.F.Files.holds new) (g.F.Files.faults new) (g.S.Sink.appended c.end.new.out) (g.S.Sink.faults c.end.new.out))
-    c.end.result (returns-clause-ended g c)
-
-pub returns-clause-complete : goal.returns-clause-complete
-returns-clause-complete g c =
-    let old = c.args.files.now in
-    let new = c.run-outcome.new.files in
-    complete_exactly (AsksFor (texts c.args.words.now)) RequestEnds request_files (request_settled (texts c.args.words.now))
-    (outside (g.F.Files.holds old) (g.F.Files.faults old) (g.S.Sink.appended c.args.out.now) (g.S.Sink.faults c.args.out.now))
-    (outside (g.F.Files.holds new) (g.F.Files.faults new) (g.S.Sink.appended c.end.new.out) (g.S.Sink.faults c.end.new.out))
-    c.end.result (returns-clause-ended g c)
-
-pub returns-clause-stored : goal.returns-clause-stored
-returns-clause-stored g c =
-    let old = c.args.files.now in
-    let new = c.run-outcome.new.files in
-    stored_exactly (AsksFor (texts c.args.words.now)) RequestEnds request_files (request_settled (texts c.args.words.now))
-    (outside (g.F.Files.holds old) (g.F.Files.faults old) (g.S.Sink.appended c.args.out.now) (g.S.Sink.faults c.args.out.now))
-    (outside (g.F.Files.holds new) (g.F.Files.faults new) (g.S.Sink.appended c.end.new.out) (g.S.Sink.faults c.end.new.out))
-    c.end.result (returns-clause-ended g c)
+    c.read_words-read.result (came_to c.run-outcome.result) c.end.result c.offers.ensures read.read read.refused
+    c.run-outcome.ensures.came c.end.ensures.written c.run-outcome.ensures.never_falls c.end.ensures.never_falls
 
 pub returns-clause-unnamed : goal.returns-clause-unnamed
 returns-clause-unnamed g c =
