@@ -1,0 +1,4 @@
+pub mod Options
+pub mod Judged
+pub mod Keeping
+pub mod Received

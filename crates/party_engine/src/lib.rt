@@ -1,0 +1,11 @@
+//! One party's part of a run over links: what its peers' bytes show, however they are cut, and what
+//! it sends to each of them.
+#![tactic(auto)]
+
+mod error;
+mod hello;
+mod judge;
+mod peer;
+
+pub use error::PartyError;
+pub use peer::Peer;
