@@ -21,3 +21,7 @@ cond_or false x rest tail = refl
 pub both_ok : {X E : Type 0} (P Q : Type 0) (r : Result X E) → OnOk r P → OnOk r Q → OnOk r (P × Q)
 both_ok P Q (Ok x) p q = (p, q)
 both_ok P Q (Err e) p q = tt
+
+pub always_ok : {X E : Type 0} (P : Type 0) (r : Result X E) → P → OnOk r P
+always_ok P (Ok x) p = p
+always_ok P (Err e) p = tt

@@ -6,6 +6,8 @@ mod error;
 mod hello;
 mod judge;
 mod peer;
+mod taking;
 
 pub use error::PartyError;
 pub use peer::Peer;
+pub use taking::{read_all, take_event};
