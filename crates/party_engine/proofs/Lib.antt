@@ -5,3 +5,4 @@ pub mod Received
 pub mod Lists
 pub mod Counting
 pub mod Taken
+pub mod Sent

@@ -1,6 +1,6 @@
 use frames::FrameFault;
 use message_demux::{Refused, Slot};
-use mot_base::{NoMemory, Party};
+use mot_base::{LinkError, NoMemory, Party};
 use thiserror::Error;
 
 /// Why one party's part of a run ended. Where one byte shows several causes, it is the first of them
@@ -59,5 +59,19 @@ impl From<NoMemory> for PartyError {
 
     fn from(_error: NoMemory) -> PartyError {
         PartyError::NoMemory
+    }
+}
+
+impl From<LinkError> for PartyError {
+    ghost use Rattle.std.specs.Prelude.{◌≡◌};
+    ghost use Rattle.party_engine.specs.Sending.{link_cause};
+
+    ghost from_gives = { λ error cause. cause ≡ link_cause error };
+
+    fn from(error: LinkError) -> PartyError {
+        match error {
+            LinkError::Failed => PartyError::LinkFault,
+            LinkError::NoMemory => PartyError::NoMemory,
+        }
     }
 }

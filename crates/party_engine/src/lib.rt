@@ -6,8 +6,10 @@ mod error;
 mod hello;
 mod judge;
 mod peer;
+mod sending;
 mod taking;
 
 pub use error::PartyError;
 pub use peer::Peer;
+pub use sending::{send_each, send_frame};
 pub use taking::{read_all, take_event};
