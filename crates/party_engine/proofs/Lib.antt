@@ -6,3 +6,5 @@ pub mod Lists
 pub mod Counting
 pub mod Taken
 pub mod Sent
+pub mod Greeting
+pub mod Exchanged

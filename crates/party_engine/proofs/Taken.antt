@@ -83,7 +83,7 @@ pub shows-closed : (inbox : InboxContents) (bytes : List ℕ) (peer : PeerRead) 
 shows-closed inbox bytes peer closed h is unended =
     (h.frames, peer.progress, h.reads, rw (h.clean, is, unended) refl)
 
-at_hello : (peers : List PeerRead) (p : ℕ) (expected : hello.Hello) → slice_get (hellos_of peers) p ≡ Some expected → (peer : PeerRead) × (slice_get peers p ≡ Some peer) × (expected ≡ peer.expected)
+pub at_hello : (peers : List PeerRead) (p : ℕ) (expected : hello.Hello) → slice_get (hellos_of peers) p ≡ Some expected → (peer : PeerRead) × (slice_get peers p ≡ Some peer) × (expected ≡ peer.expected)
 at_hello peers p expected there =
     mapped_some (λ (peer : PeerRead). peer.expected) (slice_get peers p) expected (sym (slice_get-map (λ (peer : PeerRead). peer.expected) peers p) ∙ there)
 

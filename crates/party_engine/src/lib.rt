@@ -2,14 +2,18 @@
 //! it sends to each of them.
 #![tactic(auto)]
 
+mod engine;
 mod error;
 mod hello;
 mod judge;
 mod peer;
+mod run;
 mod sending;
 mod taking;
 
+pub use engine::exchange;
 pub use error::PartyError;
 pub use peer::Peer;
+pub use run::Run;
 pub use sending::{send_each, send_frame};
 pub use taking::{read_all, take_event};

@@ -5,6 +5,7 @@ ghost use Rattle.frames.specs.Reading.{Waiting, fault_of, has_ended};
 ghost use Rattle.message_demux.specs.declared.slots.Slot as slot_type;
 ghost use Rattle.message_demux.specs.Kept.{InboxContents};
 ghost use Rattle.party_engine.specs.Judging.{is_begun, IsOfPeer};
+ghost use Rattle.party_engine.specs.Runs.{fresh_peer};
 ghost use Rattle.party_engine.specs.Reading.{bytes_cause, KeepsOf, HasRead, Shows};
 
 use crate::error::PartyError;
@@ -40,7 +41,7 @@ impl Model for Peer {
 impl Peer {
     /// A peer of whom nothing was read yet.
     pub fn new(alloc: Global, expected: Hello) -> Peer
-        ensures expected { result.expected ≡ expected }
+        ensures is { result ≡ fresh_peer expected }
         ensures nothing { (inbox : InboxContents) → KeepsOf inbox expected.from [] →
             HasRead inbox [] result }
     {

@@ -87,6 +87,7 @@ pub fn read_all<L: Links>(
     ensures taken { (before : ByParty) →
         HasTaken before (L.left links.old) place inbox.old peers.old.items →
         OnOk result (HasTaken before (L.left links.new) place inbox.new peers.new.items) }
+    ensures peers { OnOk result (ArePeers place (L.closed links.new) peers.new.items) }
     ensures ended { OnOk result ((q : ℕ) (peer : PeerRead) → q ≢ place.me.0 →
         slice_get peers.new.items q ≡ Some peer → has_ended peer.progress ≡ true) }
     ensures shown { (before : ByParty) →
