@@ -1,18 +1,17 @@
 -- What a party without messages heard of its peers.
-use Rattle.std.proofs.Common.{◌≡◌, ◌≢◌, ◌⊎◌, inl, inr, ℕ, ◌<◌, Bool, true, false, List, [], ◌∷◌, ◌++◌, length, get_or, map, refl, sym, ap, subst, ◌∙◌, Option, Some, None, arith}
+use Rattle.std.proofs.Common.{◌≡◌, ◌≢◌, inl, inr, ℕ, ◌<◌, Bool, true, false, List, [], ◌∷◌, map, refl, sym, ap, ◌∙◌, Option, Some, arith}
 use Rattle.std.specs.FinMap.{get-empty}
 use Rattle.std.specs.List.{slice_get, range_with_len}
 use Rattle.std.proofs.lemmas.List.FromFn.{length-map-range_with_len, get_or-map-range_with_len}
 use Rattle.std.proofs.lemmas.Option.{slice_get_within, slice_get-get_or, get_or_from_slice_get}
 use Rattle.mot_base.specs.Limits.{peer_bytes}
-use Rattle.mot_base.specs.Links.{ByParty, IsPeer, IsKept, IsSame}
+use Rattle.mot_base.specs.Links.{ByParty, IsKept}
 use Rattle.mot_base.specs.declared.Party.{Party}
 use Rattle.mot_base.specs.declared.links.LinkError.{LinkError}
 use Rattle.mot_base.specs.declared.links.LinkError.TheVariants as link
 use Rattle.mot_base.specs.declared.links.Place.{Place}
 use Rattle.frames.specs.Reading.{Progress, Waiting, Faulty, Ended, Reads, has_ended, fault_at, frame_length}
 use Rattle.frames.specs.declared.frame.Hello as hello
-use Rattle.frames.specs.declared.frame.Frame.{Frame}
 use Rattle.message_demux.specs.declared.slots.SlotSpec.{SlotSpec}
 use Rattle.message_demux.specs.Inbox.{empty_inbox}
 use Rattle.message_demux.specs.Kept.{InboxContents}
@@ -20,11 +19,10 @@ use Rattle.message_demux.specs.Slots.{slot_cmp}
 use Rattle.party_engine.specs.declared.error.PartyError.{PartyError}
 use Rattle.party_engine.specs.declared.error.PartyError.TheVariants as cause
 use Rattle.party_engine.specs.declared.run.Run.{Run}
-use Rattle.party_engine.specs.Judging.{first_cause}
-use Rattle.party_engine.specs.Reading.{bytes_cause, KeepsOf, PeerRead, HasRead}
+use Rattle.party_engine.specs.Reading.{KeepsOf, PeerRead, HasRead}
 use Rattle.party_engine.specs.Runs.{hello_of, party, place_in, hellos_to, fresh_peer, fresh_peers, EndsWell, HasHeard}
 use Rattle.party_engine.specs.Sending.{link_cause, IsOfLinks}
-use Rattle.party_engine.specs.Taking.{PeerShows, AreTaken, ArePeers, HasTaken, hellos_of, ShowsNothing, IsAnswer}
+use Rattle.party_engine.specs.Taking.{AreTaken, ArePeers, HasTaken, hellos_of, ShowsNothing, IsAnswer}
 use Rattle.party_engine.proofs.Options.{neither}
 use Rattle.party_engine.proofs.Taken.{taken-kept, shows-none, at_hello}
 

@@ -8,3 +8,4 @@ pub mod Taken
 pub mod Sent
 pub mod Greeting
 pub mod Exchanged
+pub mod Honest

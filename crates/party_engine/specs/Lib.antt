@@ -3,3 +3,4 @@ pub mod Reading
 pub mod Taking
 pub mod Sending
 pub mod Runs
+pub mod Streams

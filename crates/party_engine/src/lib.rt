@@ -6,6 +6,7 @@ mod engine;
 mod error;
 mod hello;
 mod judge;
+mod laws;
 mod peer;
 mod run;
 mod sending;
@@ -13,6 +14,10 @@ mod taking;
 
 pub use engine::exchange;
 pub use error::PartyError;
+pub use laws::{
+    honest_frames_are_kept, honest_frames_show_nothing, honest_streams_end,
+    honest_streams_show_nothing,
+};
 pub use peer::Peer;
 pub use run::Run;
 pub use sending::{send_each, send_frame};

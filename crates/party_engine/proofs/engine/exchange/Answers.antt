@@ -1,5 +1,4 @@
-use Rattle.std.proofs.Common.{◌≡◌, ◌∙◌, [], refl, sym, ap, Some, rules}
-use Rattle.std.proofs.lemmas.Result.{IfErr-weaker}
+use Rattle.std.proofs.Common.{◌≡◌, ◌∙◌, [], ap, Some, rules}
 use Rattle.mot_base.specs.Links.{IsKept}
 use Rattle.party_engine.specs.Runs.{place_in, hellos_to, greets_and_ends}
 use Rattle.party_engine.specs.Taking.{HasTaken, hellos_of}

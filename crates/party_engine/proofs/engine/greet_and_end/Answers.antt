@@ -1,4 +1,4 @@
-use Rattle.std.proofs.Common.{◌≡◌, ◌∙◌, List, ap, length}
+use Rattle.std.proofs.Common.{◌∙◌, List, ap, length}
 use Rattle.std.proofs.lemmas.Result.{on_err_weaker}
 use Rattle.frames.specs.declared.frame.Frame.{Frame}
 use Rattle.party_engine.specs.Runs.{hellos_from, ends_for}

@@ -1,4 +1,4 @@
-use Rattle.std.proofs.Common.{◌≡◌, ◌∙◌, refl, length, rules, arith}
+use Rattle.std.proofs.Common.{◌∙◌, refl, length, rules, arith}
 use Rattle.std.proofs.lemmas.Option.{slice_get_read}
 use Rattle.party_engine.proofs.Sent.{sent-more, begun-more}
 use Rattle.party_engine.proofs.sending.send_each.Goals as goal
