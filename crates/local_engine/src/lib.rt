@@ -10,6 +10,5 @@ pub use laws::{
 };
 pub use local_run::{
     LocalJob, PartyReport, jobs_of_seed_serve, local_pool, local_turns,
-    told_bits_are_those_of_outputs,
-    turns_are_few,
+    told_bits_are_those_of_outputs, turns_are_few,
 };

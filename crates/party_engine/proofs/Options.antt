@@ -1,0 +1,27 @@
+-- The first of several options that has a value, and answers of which two things are said.
+use Rattle.std.proofs.Common.{◌≡◌, Bool, true, false, cond, Option, Some, None, Result, Ok, Err, OnOk, refl}
+use Rattle.std.specs.Option.{option_or}
+
+pub or_none : {X : Type 0} (a : Option X) → option_or a None ≡ a
+or_none None = refl
+or_none (Some x) = refl
+
+pub or_assoc : {X : Type 0} (a b c : Option X) → option_or a (option_or b c) ≡ option_or (option_or a b) c
+or_assoc None b c = refl
+or_assoc (Some x) b c = refl
+
+pub neither : {X : Type 0} (a b : Option X) → option_or a b ≡ None → (a ≡ None) × (b ≡ None)
+neither None b e = (refl, e)
+neither (Some x) b e = absurd (cc)
+
+pub cond_or : {X : Type 0} (b : Bool) (x : X) (rest tail : Option X) → cond b (Some x) (option_or rest tail) ≡ option_or (cond b (Some x) rest) tail
+cond_or true x rest tail = refl
+cond_or false x rest tail = refl
+
+pub both_ok : {X E : Type 0} (P Q : Type 0) (r : Result X E) → OnOk r P → OnOk r Q → OnOk r (P × Q)
+both_ok P Q (Ok x) p q = (p, q)
+both_ok P Q (Err e) p q = tt
+
+pub always_ok : {X E : Type 0} (P : Type 0) (r : Result X E) → P → OnOk r P
+always_ok P (Ok x) p = p
+always_ok P (Err e) p = tt

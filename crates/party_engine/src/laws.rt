@@ -1,0 +1,22 @@
+ghost use Rattle.party_engine.specs.Streams.{HonestFramesAreKept, HonestFramesShowNothing, HonestStreamsEnd, HonestStreamsShowNothing};
+
+/// Honest frames give to each slot the payload that is to be sent there, whatever their order and
+/// repeats.
+pub fn honest_frames_are_kept()
+    ensures { HonestFramesAreKept }
+{}
+
+/// Honest frames behind a Hello show no cause, however many of them came.
+pub fn honest_frames_show_nothing()
+    ensures { HonestFramesShowNothing }
+{}
+
+/// An honest stream is read to its End, shows no cause, and has all that is to be sent.
+pub fn honest_streams_end()
+    ensures { HonestStreamsEnd }
+{}
+
+/// The first bytes of an honest stream show no cause, wherever it is cut.
+pub fn honest_streams_show_nothing()
+    ensures { HonestStreamsShowNothing }
+{}

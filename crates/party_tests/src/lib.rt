@@ -1,0 +1,5 @@
+//! Tests of one party's run over links in memory: what its peers' bytes lead to.
+#![tactic(auto)]
+
+#[cfg(test)]
+mod streams;
