@@ -21,6 +21,7 @@ use Rattle.cli_words.specs.declared.table.OptionName.{OptionName}
 use Rattle.cli_words.specs.declared.table.OptionName.TheVariants.{As, Parties, Dealer}
 use Rattle.cli_words.specs.declared.pass.State.TheVariants.{Between, Awaiting, Behind}
 use Rattle.cli_words.proofs.Cutting.{cut_end, cut_step}
+use Rattle.mot_base.proofs.Lists.{both_true}
 
 abbrev pub as_list : Option Text → List Text
 as_list None = []
@@ -183,10 +184,6 @@ all_there f (i ∷ ids) (w ∷ words) (suc at) d h within n =
     all_there f ids words at d rest (omega arith) n
 
 -- Numbers.
-
-both_true : (a b : Bool) → (a && b) ≡ true → (a ≡ true) × (b ≡ true)
-both_true true b h = (refl, h)
-both_true false b h = cc
 
 digit_below : (c : ℕ) → is_digit c 10 ≡ true → digit_value c < 10
 digit_below c h = grind (arith, nat_tests)

@@ -6,7 +6,7 @@ use Rattle.std.proofs.lemmas.List.{length-append}
 use Rattle.std.proofs.lemmas.Option.{slice_get_within}
 use Rattle.mot_base.specs.Faults.{Rose}
 use Rattle.mot_base.specs.Files.{Holding}
-use Rattle.mot_base.proofs.Lists.{take_next, some_at}
+use Rattle.mot_base.proofs.Lists.{take_next, some_at, last_at as last_there, take_whole as taken_whole}
 use Rattle.dealer_files.specs.declared.fault.DealerError.{DealerError}
 use Rattle.dealer_files.specs.declared.fault.DealerError.TheVariants.{Short, Long, RecordBits}
 use Rattle.dealer_files.specs.declared.fault.DealerError.TheVariants as cause
@@ -283,10 +283,6 @@ one_faulty parties files a b fault other m n = elim (which_first a b) as (λ _. 
 pub none_read : (parties : ℕ) (files : List Text) → AreRead parties (take 0 files) []
 none_read parties files = record { count = refl; each = λ at file part e f. cc }
 
-last_there : {X : Type 0} (xs : List X) (x : X) → slice_get (xs ++ x ∷ []) (length xs) ≡ Some x
-last_there [] x = refl
-last_there (y ∷ ys) x = last_there ys x
-
 -- an item of a list with one more is an item of the list, or the last
 pub either_item : {X : Type 0} (xs : List X) (x y : X) (at : ℕ) → slice_get (xs ++ x ∷ []) at ≡ Some y →
     ((at < length xs) × (slice_get xs at ≡ Some y)) ⊎ ((at ≡ length xs) × (x ≡ y))
@@ -385,8 +381,3 @@ first_unloaded told since early late now names contents at name end there are sa
     by (inr (inr m)) = inr (inr (rose_since early late now h m.0, m.1))
 first_unloaded told since early late now names contents at name end there are same h (inr e) = inr e
 
-pub taken_whole : {X : Type 0} (xs : List X) (n : ℕ) → length xs ≤ n → take n xs ≡ xs
-taken_whole [] zero h = refl
-taken_whole [] (suc n) h = refl
-taken_whole (x ∷ xs) zero h = absurd (omega (arith, h))
-taken_whole (x ∷ xs) (suc n) h = ap (λ zs. x ∷ zs) (taken_whole xs n (omega (arith, h)))

@@ -35,7 +35,7 @@ use Rattle.motion_cli.specs.Run.{AreRuns, AreRunsOf, IsRunOf}
 use Rattle.motion_cli.specs.Steps.{IsContent, IsUnloaded, AreContents, IsFirstUnloaded, LoadsAll}
 use Rattle.motion_cli.proofs.DealerLemmas.{take_there, one_item, same_list, which_first, one_reading, not_faulty, one_faulty}
 use Rattle.motion_cli.proofs.StepLemmas.{Agree, Fair, Refuses, carried, file_refuses, content_once, unloaded_once, not_loaded}
-use Rattle.mot_base.proofs.Lists.{some_at}
+use Rattle.mot_base.proofs.Lists.{some_at, cons_same as heads_tails}
 
 -- ---- several files
 
@@ -212,9 +212,6 @@ told_word bits = party.Told (Some bits.word)
 
 same_word : (b d : Bits) → told_word b ≡ told_word d → b.word ≡ d.word
 same_word b d e = (let is : party.Told (Some b.word) ≡ party.Told (Some d.word) = e in cc)
-
-heads_tails : {X : Type 0} (x y : X) (xs ys : List X) → x ∷ xs ≡ y ∷ ys → (x ≡ y) × (xs ≡ ys)
-heads_tails x y xs ys h = ((let e : x ≡ y = cc in e), (let e : xs ≡ ys = cc in e))
 
 same_bits : (bs ds : List Bits) → map told_word bs ≡ map told_word ds → map (λ (b : Bits). b.width) bs ≡ map (λ (b : Bits). b.width) ds →
     joined_bits bs ≡ joined_bits ds

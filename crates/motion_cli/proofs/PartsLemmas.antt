@@ -14,7 +14,7 @@ use Rattle.mot_base.specs.Limits.{most_file_bytes}
 use Rattle.share_types.specs.declared.needs.Needs.{Needs}
 use Rattle.cli_words.specs.Request.{DealRequest}
 use Rattle.dealer_files.specs.Part.{Part, counts_of}
-use Rattle.mot_base.proofs.Lists.{take_next}
+use Rattle.mot_base.proofs.Lists.{take_next, read_at as item_there}
 use Rattle.text_lines.specs.Text.{Text}
 use Rattle.motion_cli.specs.declared.refusal.Refusal.{Refusal}
 use Rattle.motion_cli.specs.declared.refusal.Refusal.TheVariants.{Memory}
@@ -220,12 +220,6 @@ pub first_id : (parts : List Part) (first : Part) (parties id : ℕ) (counts : N
     first.id ≡ id
 first_id [] first parties id counts deal some is = absurd (omega (arith, some))
 first_id (p ∷ parts) first parties id counts deal some is = ap (λ (q : Part). q.id) is ∙ (deal 0 p some).1
-
--- the item at a place is there
-pub item_there : {X : Type 0} (xs : List X) (at : ℕ) (x : X) → at < length xs → x ≡ get_or xs at x → slice_get xs at ≡ Some x
-item_there [] at x within is = absurd (omega (arith, within))
-item_there {X} (y ∷ xs) zero x within is = ap (λ (z : X). Some z) (sym is)
-item_there (y ∷ xs) (suc at) x within is = item_there xs at x (omega (arith, within)) is
 
 -- how numbers and names are written
 

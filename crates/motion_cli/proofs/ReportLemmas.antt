@@ -10,7 +10,7 @@ use Rattle.std.specs.Fmt.{digits}
 use Rattle.std.proofs.lemmas.List.{append-nil, length-append, drop-drop, length-drop, take_all}
 use Rattle.share_types.specs.Bits.{number}
 use Rattle.circuit_tables.specs.Table.{Output, Told, asked, is_asked, AreCut}
-use Rattle.mot_base.proofs.Lists.{take_next, some_at}
+use Rattle.mot_base.proofs.Lists.{take_next, some_at, last_at as last_there}
 use Rattle.text_lines.specs.Text.{Text}
 use Rattle.local_run.specs.declared.report.PartyReport.{PartyReport}
 use Rattle.motion_cli.specs.declared.report.Notation.{Notation}
@@ -74,10 +74,6 @@ ReportedTo notation table reports text =
 
 pub none_reported : (notation : Notation) (table : List Output) → ReportedTo notation table [] []
 none_reported notation table = ([], record { count = refl; each = λ p report run e f. cc }, refl)
-
-last_there : {X : Type 0} (xs : List X) (x : X) → slice_get (xs ++ x ∷ []) (length xs) ≡ Some x
-last_there [] x = refl
-last_there (y ∷ ys) x = last_there ys x
 
 before_last : {X : Type 0} (xs : List X) (x y : X) (at : ℕ) → slice_get (xs ++ x ∷ []) at ≡ Some y → at < length xs → slice_get xs at ≡ Some y
 before_last [] x y at e h = absurd (omega (arith, h))

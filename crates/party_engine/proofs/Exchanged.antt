@@ -23,8 +23,8 @@ use Rattle.party_engine.specs.Reading.{KeepsOf, PeerRead, HasRead}
 use Rattle.party_engine.specs.Runs.{hello_of, party, place_in, hellos_to, fresh_peer, fresh_peers, EndsWell, HasHeard}
 use Rattle.party_engine.specs.Sending.{link_cause, IsOfLinks}
 use Rattle.party_engine.specs.Taking.{AreTaken, ArePeers, HasTaken, hellos_of, ShowsNothing, IsAnswer}
-use Rattle.party_engine.proofs.Options.{neither}
 use Rattle.party_engine.proofs.Taken.{taken-kept, shows-none, at_hello}
+use Rattle.mot_base.proofs.Lists.{neither_some as neither}
 
 -- ---- answers of links
 

@@ -33,7 +33,7 @@ use Rattle.party_engine.specs.Reading.{Shows}
 use Rattle.party_engine.specs.Streams.{ToSend, IsHonestFrame, AreHonest, IsAmong, IsHonestStream, AreExpected, KeepAll, HonestFramesAreKept}
 use Rattle.party_engine.proofs.Judged.{causes-append, begun, own, own-hello}
 use Rattle.party_engine.proofs.Keeping.{kept-append}
-use Rattle.party_engine.proofs.Options.{neither, or_none}
+use Rattle.mot_base.proofs.Lists.{neither_some as neither, option_or_none as or_none}
 
 -- ---- what honest frames give
 

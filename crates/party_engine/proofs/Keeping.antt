@@ -20,7 +20,8 @@ use Rattle.message_demux.proofs.Keeping.{get_here, get_there}
 use Rattle.message_demux.proofs.Places.{slot_same}
 use Rattle.party_engine.specs.Judging.{kept_in, is_lacking, first_lacking}
 use Rattle.party_engine.specs.Reading.{KeepsOf}
-use Rattle.party_engine.proofs.Options.{or_none, cond_or}
+use Rattle.party_engine.proofs.Options.{cond_or}
+use Rattle.mot_base.proofs.Lists.{option_or_none as or_none}
 
 -- what frames and then others give
 pub kept-append : (peer : Party) (frames more : List Frame) (slot : Slot) → kept_in peer (frames ++ more) slot ≡ option_or (kept_in peer frames slot) (kept_in peer more slot)

@@ -1,18 +1,11 @@
 -- The first of several options that has a value, and answers of which two things are said.
 use Rattle.std.proofs.Common.{◌≡◌, Bool, true, false, cond, Option, Some, None, Result, Ok, Err, OnOk, refl}
 use Rattle.std.specs.Option.{option_or}
-
-pub or_none : {X : Type 0} (a : Option X) → option_or a None ≡ a
-or_none None = refl
-or_none (Some x) = refl
+use Rattle.mot_base.proofs.Lists.{option_or_none as or_none, neither_some as neither}
 
 pub or_assoc : {X : Type 0} (a b c : Option X) → option_or a (option_or b c) ≡ option_or (option_or a b) c
 or_assoc None b c = refl
 or_assoc (Some x) b c = refl
-
-pub neither : {X : Type 0} (a b : Option X) → option_or a b ≡ None → (a ≡ None) × (b ≡ None)
-neither None b e = (refl, e)
-neither (Some x) b e = absurd (cc)
 
 pub cond_or : {X : Type 0} (b : Bool) (x : X) (rest tail : Option X) → cond b (Some x) (option_or rest tail) ≡ option_or (cond b (Some x) rest) tail
 cond_or true x rest tail = refl

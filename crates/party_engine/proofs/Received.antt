@@ -11,7 +11,7 @@ use Rattle.party_engine.specs.declared.error.PartyError.{PartyError}
 use Rattle.party_engine.specs.Judging.{first_cause, cause_behind, is_begun}
 use Rattle.party_engine.specs.Reading.{bytes_cause, cause_read, Shows, KeepsOf, PeerRead, HasRead}
 use Rattle.party_engine.proofs.Judged.{causes-append}
-use Rattle.party_engine.proofs.Options.{neither}
+use Rattle.mot_base.proofs.Lists.{neither_some as neither}
 
 begun-append : (frames more : List Frame) → (is_begun frames || is_begun more) ≡ is_begun (frames ++ more)
 begun-append [] more = refl

@@ -9,9 +9,10 @@ use Rattle.motion_cli.specs.Outcome.{memory}
 use Rattle.motion_cli.specs.Parts.{part_name}
 use Rattle.motion_cli.specs.Refusal.{outcome_of}
 use Rattle.motion_cli.specs.Steps.{AreContents, IsFirstUnloaded}
-use Rattle.motion_cli.proofs.DealerLemmas.{contents_next, first_unloaded, taken_whole}
+use Rattle.motion_cli.proofs.DealerLemmas.{contents_next, first_unloaded}
 use Rattle.motion_cli.proofs.PartsLemmas.{refused_as}
 use Rattle.motion_cli.proofs.dealer.load_all.Goals as goal
+use Rattle.mot_base.proofs.Lists.{take_whole as taken_whole}
 
 pub returns-in_err-text-clause-err : goal.returns-in_err-text-clause-err
 returns-in_err-text-clause-err g c =

@@ -5,8 +5,9 @@ use Rattle.motion_cli.specs.Dealer.{IsDealerFault}
 use Rattle.motion_cli.specs.Outcome.{memory}
 use Rattle.motion_cli.specs.Refusal.{outcome_of}
 use Rattle.motion_cli.proofs.DealerLemmas.{read_next, faulty_at}
-use Rattle.motion_cli.proofs.PartsLemmas.{refused_as, item_there}
+use Rattle.motion_cli.proofs.PartsLemmas.{refused_as}
 use Rattle.motion_cli.proofs.dealer.read_parts.Goals as goal
+use Rattle.mot_base.proofs.Lists.{read_at as item_there}
 
 pub returns-in_err-part-clause-err : goal.returns-in_err-part-clause-err
 returns-in_err-part-clause-err c =

@@ -4,8 +4,9 @@ use Rattle.motion_cli.specs.Parts.{part_file}
 use Rattle.motion_cli.specs.Refusal.{outcome_of}
 use Rattle.std.proofs.Common.{map}
 use Rattle.mot_base.specs.Faults.{Rose}
-use Rattle.motion_cli.proofs.PartsLemmas.{stored_next, stopped_at, refused_as, cause_since, item_there}
+use Rattle.motion_cli.proofs.PartsLemmas.{stored_next, stopped_at, refused_as, cause_since}
 use Rattle.motion_cli.proofs.parts.store_parts.Goals as goal
+use Rattle.mot_base.proofs.Lists.{read_at as item_there}
 
 pub returns-in_err-store_part-clause-stopped : goal.returns-in_err-store_part-clause-stopped
 returns-in_err-store_part-clause-stopped g c =

@@ -1,7 +1,7 @@
 use Rattle.std.proofs.Common.{arith}
-use Rattle.motion_cli.proofs.PartsLemmas.{item_there}
 use Rattle.motion_cli.proofs.ReportLemmas.{reported_next}
 use Rattle.motion_cli.proofs.report.report_runs.Goals as goal
+use Rattle.mot_base.proofs.Lists.{read_at as item_there}
 
 pub loop-at-preserved : goal.loop-at-preserved
 loop-at-preserved c =
