@@ -380,4 +380,3 @@ first_unloaded told since early late now names contents at name end there are sa
     by (inr (inl m)) = inr (inl m)
     by (inr (inr m)) = inr (inr (rose_since early late now h m.0, m.1))
 first_unloaded told since early late now names contents at name end there are same h (inr e) = inr e
-
