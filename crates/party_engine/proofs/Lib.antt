@@ -9,3 +9,4 @@ pub mod Sent
 pub mod Greeting
 pub mod Exchanged
 pub mod Honest
+pub mod Answered

@@ -1,7 +1,6 @@
 -- The first of several options that has a value, and answers of which two things are said.
 use Rattle.std.proofs.Common.{◌≡◌, Bool, true, false, cond, Option, Some, None, Result, Ok, Err, OnOk, refl}
 use Rattle.std.specs.Option.{option_or}
-use Rattle.mot_base.proofs.Lists.{option_or_none as or_none, neither_some as neither}
 
 pub or_assoc : {X : Type 0} (a b c : Option X) → option_or a (option_or b c) ≡ option_or (option_or a b) c
 or_assoc None b c = refl

@@ -86,6 +86,16 @@ IsAnswer before told closed place hellos slots shown =
     ⊎ (((shown ≡ cause.LinkFault) × ShowsNothing before told closed place hellos slots)
     ⊎ IsShown before told closed place hellos slots shown)
 
+-- Where what was taken of some peer shows a cause, the answer is that cause, or want of memory.
+abbrev pub AnswersAreShown : Type 0
+AnswersAreShown =
+    (before : ByParty) (told : Option ByParty) (closed : ℕ → Bool) (place : Place) (hellos : List hello.Hello)
+    (slots : List SlotSpec) (answer shown : PartyError)
+    → IsAnswer before told closed place hellos slots answer
+    → (q : ℕ) (expected : hello.Hello) (taken : ByParty) → IsPeer (Some place) q → slice_get hellos q ≡ Some expected
+    → AreTaken before told taken → PeerShows expected slots (taken q) (closed q) (Some shown)
+    → (answer ≡ cause.NoMemory) ⊎ (answer ≡ shown)
+
 -- the party that an answer names is a peer, and is told as closed where it closed too early
 abbrev pub NamesPeer : Option Place → (ℕ → Bool) → PartyError → Type 0
 NamesPeer place closed (cause.HelloMissing p) = IsPeer place p.0

@@ -1,3 +1,4 @@
+ghost use Rattle.party_engine.specs.Taking.{AnswersAreShown};
 ghost use Rattle.party_engine.specs.Streams.{HonestFramesAreKept, HonestFramesShowNothing, HonestStreamsEnd, HonestStreamsShowNothing};
 
 /// Honest frames give to each slot the payload that is to be sent there, whatever their order and
@@ -19,4 +20,9 @@ pub fn honest_streams_end()
 /// The first bytes of an honest stream show no cause, wherever it is cut.
 pub fn honest_streams_show_nothing()
     ensures { HonestStreamsShowNothing }
+{}
+
+/// Where what was taken of some peer shows a cause, the answer is that cause, or want of memory.
+pub fn answers_are_shown()
+    ensures { AnswersAreShown }
 {}

@@ -15,7 +15,7 @@ mod taking;
 pub use engine::exchange;
 pub use error::PartyError;
 pub use laws::{
-    honest_frames_are_kept, honest_frames_show_nothing, honest_streams_end,
+    answers_are_shown, honest_frames_are_kept, honest_frames_show_nothing, honest_streams_end,
     honest_streams_show_nothing,
 };
 pub use peer::Peer;
