@@ -10,3 +10,4 @@ pub mod Greeting
 pub mod Exchanged
 pub mod Honest
 pub mod Answered
+pub mod Heard

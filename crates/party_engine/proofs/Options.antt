@@ -1,5 +1,5 @@
 -- The first of several options that has a value, and answers of which two things are said.
-use Rattle.std.proofs.Common.{◌≡◌, Bool, true, false, cond, Option, Some, None, Result, Ok, Err, OnOk, refl}
+use Rattle.std.proofs.Common.{◌≡◌, Bool, true, false, cond, Option, Some, None, Result, Ok, Err, OnOk, IfErr, refl}
 use Rattle.std.specs.Option.{option_or}
 
 pub or_assoc : {X : Type 0} (a b c : Option X) → option_or a (option_or b c) ≡ option_or (option_or a b) c
@@ -17,3 +17,7 @@ both_ok P Q (Err e) p q = tt
 pub always_ok : {X E : Type 0} (P : Type 0) (r : Result X E) → P → OnOk r P
 always_ok P (Ok x) p = p
 always_ok P (Err e) p = tt
+
+pub both_err : {X E : Type 0} (P Q : E → Type 0) (r : Result X E) → IfErr r P → IfErr r Q → IfErr r (λ e. P e × Q e)
+both_err P Q (Ok x) p q = tt
+both_err P Q (Err e) p q = (p, q)

@@ -1,14 +1,14 @@
 -- What an event of links leaves of what was taken.
-use Rattle.std.proofs.Common.{◌≡◌, ◌≢◌, ℕ, ◌<◌, eqb, eq-eqb, ◌&&◌, Bool, true, false, cond, not, List, ◌++◌, append_assoc, set, refl, sym, ap, subst, ◌∙◌, Option, Some, None}
+use Rattle.std.proofs.Common.{◌≡◌, ◌≢◌, ℕ, ◌<◌, eqb, eq-eqb, ◌&&◌, Bool, true, false, cond, not, List, [], ◌++◌, append_assoc, set, refl, sym, ap, subst, ◌∙◌, Option, Some, None}
 use Rattle.std.specs.FinMap as m
 use Rattle.std.specs.List.{slice_get}
 use Rattle.std.specs.Option.{option_map}
 use Rattle.std.proofs.lemmas.Bool.{eqb-true, eqb-false}
-use Rattle.std.proofs.lemmas.List.{length-set}
+use Rattle.std.proofs.lemmas.List.{append-nil, length-set}
 use Rattle.std.proofs.lemmas.Option.{slice_get_within, slice_get-map, same_Some}
 use Rattle.mot_base.proofs.Lists.{mapped_some}
 use Rattle.mot_base.specs.Limits.{peer_bytes}
-use Rattle.mot_base.specs.Links.{ByParty, IsPeer, IsKept, IsCutOff, IsSame, IsWith}
+use Rattle.mot_base.specs.Links.{ByParty, IsPeer, IsKept, IsCutOff, IsUsedUp, IsSame, IsWith}
 use Rattle.mot_base.specs.declared.Party.{Party}
 use Rattle.mot_base.specs.declared.links.Place.{Place}
 use Rattle.frames.specs.Reading.{has_ended}
@@ -62,6 +62,12 @@ are_kept before left (Some now) taken each kept = (now, refl, λ p. each p ∙ a
 pub taken-kept : (before : ByParty) (told after : Option ByParty) (taken : ByParty) → AreTaken before told taken → IsKept told after → AreTaken before after taken
 taken-kept before told after taken far kept =
     are_kept before far.0 after taken far.2 (subst (λ t. IsKept t after) far.1 kept)
+
+-- where none are left of a party, all of its bytes were taken
+pub taken-whole : (before : ByParty) (told : Option ByParty) (taken : ByParty) (q : ℕ) → AreTaken before told taken → IsUsedUp told q → taken q ≡ before q
+taken-whole before told taken q far used =
+    let none : far.0 q ≡ [] = subst (λ t. IsUsedUp t q) far.1 used in
+    sym (far.2 q ∙ ap (λ xs. taken q ++ xs) none ∙ append-nil (taken q))
 
 -- ---- what a peer shows
 
@@ -121,8 +127,8 @@ module _ (place : Place) (closed after : ℕ → Bool) (inbox : InboxContents) (
 
   module _ (q : ℕ) (peer : IsPeer (Some place) q) (old : PeerRead) (there : slice_get peers q ≡ Some old) where
     -- a peer that closed before its End
-    pub closes-early : (before : ByParty) (told now : Option ByParty) (from : Party) → q ≡ from.0 → HasTaken before told place inbox peers → IsKept told now → IsWith closed after q → has_ended old.progress ≡ false → IsShown before now after place (hellos_of peers) inbox.slots (cause.PeerClosed from)
-    closes-early before told now from is far kept with_ unended =
+    pub closes-early : (before : ByParty) (told now : Option ByParty) (from : Party) → q ≡ from.0 → HasTaken before told place inbox peers → IsKept told now → IsUsedUp told q → IsWith closed after q → has_ended old.progress ≡ false → IsShown before now after place (hellos_of peers) inbox.slots (cause.PeerClosed from)
+    closes-early before told now from is far kept used with_ unended =
         let number : old.expected.from.0 ≡ from.0 = are.in_order q old there ∙ is in
         let same : old.expected.from ≡ from = λ i. record { 0 = number i } in
         record {
@@ -133,6 +139,7 @@ module _ (place : Place) (closed after : ℕ → Bool) (inbox : InboxContents) (
           taken = far.taken;
           are_taken = taken-kept before told now far.taken far.are_taken kept;
           shows = subst (λ p. PeerShows old.expected inbox.slots (far.taken q) (after q) (Some (cause.PeerClosed p))) same (shows-closed inbox (far.taken q) old (after q) (far.read q old peer there) with_.0 unended);
+          whole = λ p closed. taken-whole before told far.taken q far.are_taken used;
           others = λ p other is_peer ne at_p.
               let at = at_hello peers p other at_p in
               rw at.2 (shows-none inbox (far.taken p) at.0 (after p) (far.read p at.0 is_peer at.1) (λ told_so. are.ended p at.0 at.1 (sym (with_.1 p ne) ∙ told_so)));
@@ -156,8 +163,8 @@ module _ (place : Place) (closed after : ℕ → Bool) (inbox : InboxContents) (
           are.ended p other at (sym (with_.1 p ne) ∙ told_so)
 
     -- bytes of a peer show a cause
-    pub bytes-show : (before : ByParty) (told now : Option ByParty) (piece : List ℕ) (shown : PartyError) (far : HasTaken before told place inbox peers) → IsCutOff told now q piece → IsSame closed after → Shows old.expected inbox.slots (far.taken q ++ piece) (Some shown) → IsShown before now after place (hellos_of peers) inbox.slots shown
-    bytes-show before told now piece shown far cut same shows = record {
+    pub bytes-show : (before : ByParty) (told now : Option ByParty) (piece : List ℕ) (shown : PartyError) (far : HasTaken before told place inbox peers) → IsCutOff told now q piece → IsSame closed after → IsOfPeer old.expected.from shown → Shows old.expected inbox.slots (far.taken q ++ piece) (Some shown) → IsShown before now after place (hellos_of peers) inbox.slots shown
+    bytes-show before told now piece shown far cut same theirs shows = record {
       q = q;
       expected = old.expected;
       is_peer = peer;
@@ -165,6 +172,7 @@ module _ (place : Place) (closed after : ℕ → Bool) (inbox : InboxContents) (
       taken = more far.taken q piece;
       are_taken = taken-more before told now far.taken q piece far.are_taken cut;
       shows = subst (λ bytes. PeerShows old.expected inbox.slots bytes (after q) (Some shown)) (sym (more-here far.taken q piece)) (shows-some old.expected inbox.slots (far.taken q ++ piece) (after q) shown shows);
+      whole = λ p closed. absurd (subst (IsOfPeer old.expected.from) closed theirs);
       others = λ p other is_peer ne at_p.
           let at = at_hello peers p other at_p in
           rw (more-there far.taken q piece p ne, at.2) (shows-none inbox (far.taken p) at.0 (after p) (far.read p at.0 is_peer at.1) (still_ended same p at.0 at.1));

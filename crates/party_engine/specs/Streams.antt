@@ -1,8 +1,10 @@
 -- Honest streams of a peer: between Hello and End each payload that it has to send, in any order and
 -- as often as it likes.
-use Rattle.std.specs.Prelude.{◌≡◌, ◌⊎◌, ℕ, ◌<◌, List, [], ◌∷◌, ◌++◌, length, Option, Some, None}
-use Rattle.std.specs.List.{AllByRecursion}
+use Rattle.std.specs.Prelude.{◌≡◌, ◌⊎◌, ℕ, ◌<◌, Bool, List, [], ◌∷◌, ◌++◌, length, Option, Some, None}
+use Rattle.std.specs.List.{AllByRecursion, slice_get}
 use Rattle.mot_base.specs.Limits.{peer_bytes}
+use Rattle.mot_base.specs.Links.{ByParty, IsPeer}
+use Rattle.mot_base.specs.declared.links.Place.{Place}
 use Rattle.frames.specs.Bytes.{canonical, joined}
 use Rattle.frames.specs.Reading.{IsBeforeEnd, Reads, Ended}
 use Rattle.frames.specs.declared.frame.Hello as hello
@@ -14,6 +16,8 @@ use Rattle.message_demux.specs.Slots.{slot_at}
 use Rattle.party_engine.specs.declared.error.PartyError.{PartyError}
 use Rattle.party_engine.specs.Judging.{kept_in, first_cause}
 use Rattle.party_engine.specs.Reading.{Shows}
+use Rattle.party_engine.specs.Sending.{IsOfLinks}
+use Rattle.party_engine.specs.Taking.{IsAnswer}
 
 -- what a peer has to send: the payload for a round of a gate, if there is one
 abbrev pub ToSend : Type 0
@@ -85,3 +89,17 @@ HonestStreamsShowNothing =
     (expected : hello.Hello) (sends : ToSend) (slots : List SlotSpec) (bytes some rest : List ℕ) (shown : Option PartyError)
     → IsHonestStream expected sends bytes → AreExpected expected sends slots
     → bytes ≡ some ++ rest → Shows expected slots some shown → shown ≡ None
+
+-- each peer's bytes are an honest stream of what is expected of it
+abbrev pub AreHonestStreams : ByParty → Place → List hello.Hello → (ℕ → ToSend) → List SlotSpec → Type 0
+AreHonestStreams before place hellos sends slots =
+    (q : ℕ) (expected : hello.Hello) → IsPeer (Some place) q → slice_get hellos q ≡ Some expected
+    → IsHonestStream expected (sends q) (before q) × AreExpected expected (sends q) slots
+
+-- where each peer's bytes are an honest stream, an answer tells of the links alone
+abbrev pub HonestPeersShowNothing : Type 0
+HonestPeersShowNothing =
+    (before : ByParty) (told : Option ByParty) (closed : ℕ → Bool) (place : Place) (hellos : List hello.Hello)
+    (sends : ℕ → ToSend) (slots : List SlotSpec) (answer : PartyError)
+    → AreHonestStreams before place hellos sends slots
+    → IsAnswer before told closed place hellos slots answer → IsOfLinks answer

@@ -4,6 +4,7 @@ use Rattle.std.specs.List.{slice_get, sum_by}
 use Rattle.std.specs.Option.{option_or}
 use Rattle.mot_base.specs.Limits.{peer_bytes}
 use Rattle.mot_base.specs.Links.{ByParty, IsPeer}
+use Rattle.mot_base.specs.declared.Party.{Party}
 use Rattle.mot_base.specs.declared.links.Place.{Place}
 use Rattle.frames.specs.Reading.{Progress, Reads, has_ended}
 use Rattle.frames.specs.declared.frame.Hello as hello
@@ -67,15 +68,17 @@ pub record ShowsNothing (before : ByParty) (told : Option ByParty) (closed : ℕ
   pub are_taken : AreTaken before told taken
   pub each : (p : ℕ) (expected : hello.Hello) → IsPeer (Some place) p → slice_get hellos p ≡ Some expected → PeerShows expected slots (taken p) (closed p) None
 
--- what was taken of some peer shows the cause, and of each other one none
-pub record IsShown (before : ByParty) (told : Option ByParty) (closed : ℕ → Bool) (place : Place) (hellos : List hello.Hello) (slots : List SlotSpec) (cause : PartyError) : Type 0 where
+-- what was taken of some peer shows the cause, and of each other one none; where the peer closed too
+-- early, all of its bytes were taken
+pub record IsShown (before : ByParty) (told : Option ByParty) (closed : ℕ → Bool) (place : Place) (hellos : List hello.Hello) (slots : List SlotSpec) (shown : PartyError) : Type 0 where
   pub q : ℕ
   pub expected : hello.Hello
   pub is_peer : IsPeer (Some place) q
   pub there : slice_get hellos q ≡ Some expected
   pub taken : ByParty
   pub are_taken : AreTaken before told taken
-  pub shows : PeerShows expected slots (taken q) (closed q) (Some cause)
+  pub shows : PeerShows expected slots (taken q) (closed q) (Some shown)
+  pub whole : (p : Party) → shown ≡ cause.PeerClosed p → taken q ≡ before q
   pub others : (p : ℕ) (other : hello.Hello) → IsPeer (Some place) p → p ≢ q → slice_get hellos p ≡ Some other → PeerShows other slots (taken p) (closed p) None
 
 -- What an answer tells of the peers: want of memory nothing, a fault of the links that none shows a

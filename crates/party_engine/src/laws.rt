@@ -1,5 +1,5 @@
 ghost use Rattle.party_engine.specs.Taking.{AnswersAreShown};
-ghost use Rattle.party_engine.specs.Streams.{HonestFramesAreKept, HonestFramesShowNothing, HonestStreamsEnd, HonestStreamsShowNothing};
+ghost use Rattle.party_engine.specs.Streams.{HonestFramesAreKept, HonestFramesShowNothing, HonestPeersShowNothing, HonestStreamsEnd, HonestStreamsShowNothing};
 
 /// Honest frames give to each slot the payload that is to be sent there, whatever their order and
 /// repeats.
@@ -25,4 +25,9 @@ pub fn honest_streams_show_nothing()
 /// Where what was taken of some peer shows a cause, the answer is that cause, or want of memory.
 pub fn answers_are_shown()
     ensures { AnswersAreShown }
+{}
+
+/// Where each peer's bytes are an honest stream, an answer tells of the links alone.
+pub fn honest_peers_show_nothing()
+    ensures { HonestPeersShowNothing }
 {}

@@ -15,8 +15,8 @@ mod taking;
 pub use engine::exchange;
 pub use error::PartyError;
 pub use laws::{
-    answers_are_shown, honest_frames_are_kept, honest_frames_show_nothing, honest_streams_end,
-    honest_streams_show_nothing,
+    answers_are_shown, honest_frames_are_kept, honest_frames_show_nothing,
+    honest_peers_show_nothing, honest_streams_end, honest_streams_show_nothing,
 };
 pub use peer::Peer;
 pub use run::Run;

@@ -5,7 +5,7 @@ use Rattle.std.proofs.lemmas.Result.{on_ok_weaker, IfErr-weaker}
 use Rattle.party_engine.specs.Reading.{PeerRead}
 use Rattle.party_engine.proofs.Counting.{nearer-bytes, nearer-closed}
 use Rattle.party_engine.proofs.Lists.{map_set_same}
-use Rattle.party_engine.proofs.Options.{both_ok, always_ok}
+use Rattle.party_engine.proofs.Options.{both_ok, both_err, always_ok}
 use Rattle.party_engine.proofs.Taken.{shows-nothing, closes-early, closes, bytes-show, bytes-taken, peers-more, names-of}
 use Rattle.party_engine.proofs.taking.take_event.Goals as goal
 
@@ -39,11 +39,11 @@ returns-in-Bytes-clause-shown g c =
     let there = slice_get_read peers (length peers) c.in-Bytes.from.0 old refl (omega (arith, c.requires.peers.count, peer.0)) (rw c.from.ensures at c.index_mut-peer.ensures.value) in
     λ before far.
     IfErr-weaker c.receive.result _ _
-    (λ shown said. elim said [
+    (λ shown both. elim both.0 [
       | inl memory ↦ inl memory
-      | inr shows ↦ inr (inr (bytes-show c.args.place (g.L.Links.closed c.args.links.now) (g.L.Links.closed c.take.new.self) c.args.inbox.now peers c.requires.peers c.in-Bytes.from.0 peer old there before (g.L.Links.left c.args.links.now) (g.L.Links.left c.take.new.self) (take c.in-Bytes.count c.take.new.into) shown far c.in-Bytes.ensures.moves.2 c.in-Bytes.ensures.closes shows))
+      | inr shows ↦ inr (inr (bytes-show c.args.place (g.L.Links.closed c.args.links.now) (g.L.Links.closed c.take.new.self) c.args.inbox.now peers c.requires.peers c.in-Bytes.from.0 peer old there before (g.L.Links.left c.args.links.now) (g.L.Links.left c.take.new.self) (take c.in-Bytes.count c.take.new.into) shown far c.in-Bytes.ensures.moves.2 c.in-Bytes.ensures.closes both.1 shows))
     ])
-    (c.receive.ensures.err (far.taken c.in-Bytes.from.0) (far.read c.in-Bytes.from.0 old peer there))
+    (both_err _ _ c.receive.result (c.receive.ensures.err (far.taken c.in-Bytes.from.0) (far.read c.in-Bytes.from.0 old peer there)) c.receive.ensures.kind)
 
 pub returns-in-Bytes-clause-names : goal.returns-in-Bytes-clause-names
 returns-in-Bytes-clause-names g c =
@@ -94,7 +94,7 @@ returns-in-Closed-clause-shown g c =
     let there = slice_get_read peers (length peers) c.in-Closed.from.0 old refl (omega (arith, c.requires.peers.count, peer.0)) (rw c.from-in-Closed.ensures at c.index.ensures) in
     λ before far.
     IfErr-weaker c.check_closed.result _ _
-    (λ shown said. inr (inr (rw said.0 (closes-early c.args.place (g.L.Links.closed c.args.links.now) (g.L.Links.closed c.take.new.self) c.args.inbox.now peers c.requires.peers c.in-Closed.from.0 peer old there before (g.L.Links.left c.args.links.now) (g.L.Links.left c.take.new.self) c.in-Closed.from refl far c.in-Closed.ensures.moves.0 c.in-Closed.ensures.closes.1 said.1))))
+    (λ shown said. inr (inr (rw said.0 (closes-early c.args.place (g.L.Links.closed c.args.links.now) (g.L.Links.closed c.take.new.self) c.args.inbox.now peers c.requires.peers c.in-Closed.from.0 peer old there before (g.L.Links.left c.args.links.now) (g.L.Links.left c.take.new.self) c.in-Closed.from refl far c.in-Closed.ensures.moves.0 c.in-Closed.ensures.moves.1 c.in-Closed.ensures.closes.1 said.1))))
     c.check_closed.ensures.err
 
 pub returns-in-Closed-clause-nearer : goal.returns-in-Closed-clause-nearer
