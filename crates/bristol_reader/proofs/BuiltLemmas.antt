@@ -1,5 +1,5 @@
 -- What a builder keeps, gate by gate.
-use Rattle.std.proofs.Common.{ℕ, ◌≡◌, ◌<◌, ◌≤◌, Bool, true, false, not, ◌&&◌, ◌||◌, nat_lt, List, [], ◌∷◌, ◌++◌, length, take, get_or, zero, suc, Some, refl, sym, ◌∙◌, ap, subst, arith, ◌⊎◌, inl, inr}
+use Rattle.std.proofs.Common.{ℕ, ◌≡◌, ◌<◌, ◌≤◌, Bool, true, false, not, ◌&&◌, ◌||◌, nat_lt, List, [], ◌∷◌, ◌++◌, length, take, get_or, Some, refl, sym, ◌∙◌, ap, subst, arith, ◌⊎◌, inl, inr}
 use Rattle.std.specs.Prelude.{slice_get, sum}
 use Rattle.std.specs.List.{list_all}
 use Rattle.std.proofs.lemmas.Bool.{and_parts}
@@ -13,7 +13,7 @@ use Rattle.bristol_reader.specs.Circuit.{Gate, Circuit, is_among, is_set_by, is_
 use Rattle.bristol_reader.specs.Line.{are_outs_new}
 use Rattle.bristol_reader.specs.Marks.{is_marked, are_new_to, IsMarked}
 use Rattle.bristol_reader.specs.Built.{are_positive, FitsBehind, first_gates, IsBuilt, IsKept}
-use Rattle.mot_base.proofs.Lists.{same_some, pushed_at as pushed, or_false}
+use Rattle.mot_base.proofs.Lists.{pushed_at as pushed, or_false}
 
 or_assoc : (a b m : Bool) → (a || (b || (m || false))) ≡ ((a || b) || m)
 or_assoc true b m = refl

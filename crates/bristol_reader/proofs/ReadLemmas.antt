@@ -5,11 +5,11 @@ use Rattle.std.proofs.lemmas.Bool.{eq-eqb, ne_eqb}
 use Rattle.bristol_reader.specs.declared.stage.Stage.{Stage}
 use Rattle.bristol_reader.specs.declared.stage.Stage.TheVariants.{Start}
 use Rattle.bristol_reader.specs.declared.cause.BristolCause.{BristolCause}
-use Rattle.bristol_reader.specs.declared.cause.BristolError.{BristolError}
-use Rattle.bristol_reader.specs.declared.cause.BristolError.TheVariants as bristol_error
+use Rattle.text_lines.specs.declared.cause.TextError.{TextError}
+use Rattle.text_lines.specs.declared.cause.TextError.TheVariants as text_error
 use Rattle.bristol_reader.specs.Circuit.{Circuit}
 use Rattle.bristol_reader.specs.Grammar.{Known, circuits, behind_line, behind, circuit_of, read_last, Reads, FirstFault, IsFirstFault}
-use Rattle.bristol_reader.specs.Gives.{FailsAt, GivesAt}
+use Rattle.text_lines.specs.Gives.{FailsAt, GivesAt}
 use Rattle.text_lines.specs.Text.{Text, lines}
 use Rattle.text_lines.specs.Chain.{◌>>=◌}
 use Rattle.bristol_reader.proofs.LastLemmas.{line_whole}
@@ -54,9 +54,9 @@ fault_at text stage number here left last cause to e h =
     read_fault Known Circuit BristolCause (circuits (reader text)) text (known (length left + 1) stage) number here left cause to
     (behind_known (length left + 1) stage here last _ e h)
 
-pub fault_here : (text : Text) (stage : Stage) (number : ℕ) (here next : Text) (left behind_here : List Text) (e : BristolError) → ReadTo text stage number here behind_here → behind_here ≡ next ∷ left → FailsAt (number + 1) e (behind_line false stage here) → IsFirstFault text e
-fault_here text stage number here next left behind_here bristol_error.NoMemory to cut fails = tt
-fault_here text stage number here next left behind_here (bristol_error.At line cause) to cut fails =
+pub fault_here : (text : Text) (stage : Stage) (number : ℕ) (here next : Text) (left behind_here : List Text) (e : TextError BristolCause) → ReadTo text stage number here behind_here → behind_here ≡ next ∷ left → FailsAt (number + 1) e (behind_line false stage here) → IsFirstFault text e
+fault_here text stage number here next left behind_here text_error.NoMemory to cut fails = tt
+fault_here text stage number here next left behind_here (text_error.At line cause) to cut fails =
     let from : ReadTo text stage number here (next ∷ left) = subst (λ (ls : List Text). ReadTo text stage number here ls) cut to in
     subst (λ (n : ℕ). FirstFault text n cause) (sym fails.0) (fault_at text stage number here (next ∷ left) false cause from (not_last left next) fails.1)
 
@@ -70,7 +70,7 @@ last_ok text stage s number here left c to none h e =
     let end = subst (λ (ls : List Text). IsReadTo Known Circuit BristolCause (circuits (reader text)) text (known (length left + 1 - 1) s) (number + 1) ls) none step in
     read_whole Known Circuit BristolCause (circuits (reader text)) text (known (length left + 1 - 1) s) (number + 1) c end e
 
-pub read_ok : (text : Text) (stage : Stage) (number : ℕ) (here : Text) (left : List Text) (r : Result Circuit BristolError) → ReadTo text stage number here left → left ≡ [] → GivesAt (number + 1) r (read_last stage here) → IfOk r (λ c. Reads text c)
+pub read_ok : (text : Text) (stage : Stage) (number : ℕ) (here : Text) (left : List Text) (r : Result Circuit (TextError BristolCause)) → ReadTo text stage number here left → left ≡ [] → GivesAt (λ c. c) (number + 1) r (read_last stage here) → IfOk r (λ c. Reads text c)
 read_ok text stage number here left (Err e) to none gives = tt
 read_ok text stage number here left (Ok c) to none gives =
     let parts = ok_then (behind_line true stage here) circuit_of c gives in
@@ -81,9 +81,9 @@ last_err : (r : Result Stage BristolCause) (cause : BristolCause) → ((s : Stag
 last_err (Ok s) cause done h = let d = done s refl in let e = d.1 in absurd cc
 last_err (Err e) cause done h = let same : e ≡ cause = cc in ap Err same
 
-pub read_at : (text : Text) (stage : Stage) (number : ℕ) (here : Text) (left : List Text) (r : Result Circuit BristolError) → ReadTo text stage number here left → left ≡ [] → GivesAt (number + 1) r (read_last stage here) → IfErr r (λ e. IsFirstFault text e)
+pub read_at : (text : Text) (stage : Stage) (number : ℕ) (here : Text) (left : List Text) (r : Result Circuit (TextError BristolCause)) → ReadTo text stage number here left → left ≡ [] → GivesAt (λ c. c) (number + 1) r (read_last stage here) → IfErr r (λ e. IsFirstFault text e)
 read_at text stage number here left (Ok c) to none gives = tt
-read_at text stage number here left (Err bristol_error.NoMemory) to none gives = tt
-read_at text stage number here left (Err (bristol_error.At line cause)) to none gives =
+read_at text stage number here left (Err text_error.NoMemory) to none gives = tt
+read_at text stage number here left (Err (text_error.At line cause)) to none gives =
     let shows = last_err (behind_line true stage here) cause (λ s h. line_whole stage s here h) gives.1 in
     subst (λ (n : ℕ). FirstFault text n cause) (sym gives.0) (fault_at text stage number here left true cause to (is_last left none) shows)

@@ -6,8 +6,6 @@ use Rattle.std.specs.List.{list_all}
 use Rattle.mot_base.specs.Limits.{most_statements, most_wires}
 use Rattle.bristol_reader.specs.declared.cause.BristolCause.{BristolCause}
 use Rattle.bristol_reader.specs.declared.cause.BristolCause.TheVariants.{NotText, Header, TooMany, Counts, Leftover, OutputUnset}
-use Rattle.bristol_reader.specs.declared.cause.BristolError.{BristolError}
-use Rattle.bristol_reader.specs.declared.cause.BristolError.TheVariants.{At, NoMemory}
 use Rattle.bristol_reader.specs.declared.stage.Stage.{Stage}
 use Rattle.bristol_reader.specs.declared.stage.Stage.TheVariants.{Start, Sized, Entered, Body}
 use Rattle.bristol_reader.specs.Circuit.{Circuit, Sizes, Progress, no_gates, are_outputs_set}
@@ -15,6 +13,8 @@ use Rattle.bristol_reader.specs.Line.{numbers_of, adds}
 use Rattle.text_lines.specs.Chain.{or_cause, unless, ◌>>=◌}
 use Rattle.text_lines.specs.Text.{Text, is_allowed, words, lines}
 use Rattle.text_lines.specs.LineReader.{LineReader, ReadsAs, FirstFaultOf, ReadsOrFaults}
+use Rattle.text_lines.specs.declared.cause.TextError.{TextError}
+use Rattle.text_lines.specs.Gives.{IsFirstFaultOf}
 
 -- ---- the header lines
 
@@ -147,9 +147,8 @@ abbrev pub FirstFault : Text → ℕ → BristolCause → Type 0
 FirstFault text line cause = FirstFaultOf (circuits (length (lines text))) text line cause
 
 -- an error is the first fault of a text, or memory ran out
-abbrev pub IsFirstFault : Text → BristolError → Type 0
-IsFirstFault text (At line cause) = FirstFault text line cause
-IsFirstFault text NoMemory = Unit {0}
+abbrev pub IsFirstFault : Text → TextError BristolCause → Type 0
+IsFirstFault text e = IsFirstFaultOf (circuits (length (lines text))) text e
 
 -- of every text exactly one is the case: it reads as one circuit, or one line and cause are its first fault
 abbrev pub EachReadsOrFaults : Type 0

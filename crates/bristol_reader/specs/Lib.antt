@@ -3,7 +3,6 @@ pub mod Circuit
 pub mod Line
 pub mod Marks
 pub mod Grammar
-pub mod Gives
 pub mod Built
 pub mod Read
 pub mod Stored

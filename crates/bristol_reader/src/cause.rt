@@ -1,5 +1,4 @@
-use std::alloc::{AllocError, AllocFailed};
-use text_lines::LineError;
+use text_lines::{LineError, TextError};
 use thiserror::Error;
 
 /// What is wrong with a line of a text in Bristol Fashion. Within one line the causes are looked for in this order:
@@ -45,16 +44,8 @@ pub enum BristolCause {
     TooMany = 11,
 }
 
-/// Why a text was not read as a circuit.
-#[derive(Clone, Copy, Debug, PartialEq, Eq, Error)]
-pub enum BristolError {
-    /// The first line that shows a cause, and the first cause of that line.
-    #[error("line {line} of the circuit: {cause}")]
-    At { line: u32, cause: BristolCause },
-    /// Memory ran out.
-    #[error("there is not enough memory to read the circuit")]
-    NoMemory,
-}
+/// Why a text was not read as a circuit: the first fault, or want of memory.
+pub type BristolError = TextError<BristolCause>;
 
 impl From<BristolCause> for LineError<BristolCause> {
     ghost use Rattle.std.specs.Prelude.{◌≡◌};

@@ -2,8 +2,7 @@ ghost use Rattle.std.specs.Prelude.{◌≡◌, ◌≤◌, false, length, map, Ok
 ghost use Rattle.mot_base.specs.Limits.{most_file_bytes};
 ghost use Rattle.bristol_reader.specs.Grammar.{EachReadsOrFaults, Reads, IsFirstFault, IsDone, circuit_of, read_last, behind_line, behind_words, behind_blank, ended};
 ghost use Rattle.bristol_reader.specs.Read.{EachReadIsCircuit};
-ghost use Rattle.text_lines.specs.Gives.{Gives};
-ghost use Rattle.bristol_reader.specs.Gives.{GivesAt, error_at};
+ghost use Rattle.text_lines.specs.Gives.{Gives, GivesAt};
 ghost use Rattle.bristol_reader.specs.declared.stage.Stage.TheVariants.{Body};
 
 use crate::builder::Builder;
@@ -54,11 +53,11 @@ fn circuit_behind(
     line: &[u8],
     number: u32,
 ) -> Result<Bristol, BristolError>
-    ensures { GivesAt number result (read_last stage line.now) }
+    ensures { GivesAt (λ c. c) number result (read_last stage line.now) }
 {
     match behind_line(alloc, true, stage, line) {
         Ok(done) => Ok(finished(done)),
-        Err(error) => Err(at_line(number, error)),
+        Err(error) => Err(error.at(number)),
     }
 }
 
@@ -80,11 +79,11 @@ fn behind_numbered(
     line: &[u8],
     number: u32,
 ) -> Result<Stage, BristolError>
-    ensures { GivesAt number result (behind_line false stage line.now) }
+    ensures { GivesAt (λ s. s) number result (behind_line false stage line.now) }
 {
     match behind_line(alloc, false, stage, line) {
         Ok(next) => Ok(next),
-        Err(error) => Err(at_line(number, error)),
+        Err(error) => Err(error.at(number)),
     }
 }
 
@@ -181,14 +180,4 @@ fn ended(last: bool, builder: Builder) -> Result<Stage, LineError<BristolCause>>
         BristolCause::OutputUnset,
     )?;
     Ok(Stage::Body(builder))
-}
-
-/// The error of a line.
-fn at_line(line: u32, error: LineError<BristolCause>) -> BristolError
-    ensures { result ≡ error_at line error }
-{
-    match error {
-        LineError::Shows(cause) => BristolError::At { line, cause },
-        LineError::NoMemory => BristolError::NoMemory,
-    }
 }

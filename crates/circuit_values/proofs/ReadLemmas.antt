@@ -1,23 +1,19 @@
 -- How far a values text is read, and the values behind its lines.
-use Rattle.std.proofs.Common.{ℕ, ◌≡◌, ◌<◌, ◌≤◌, ◌+◌, Bool, true, false, ◌&&◌, List, [], ◌∷◌, length, map, drop, Option, Some, None, Ok, zero, suc, refl, sym, ◌∙◌, ap, subst, cond, arith}
+use Rattle.std.proofs.Common.{ℕ, ◌≡◌, ◌<◌, ◌≤◌, ◌+◌, Bool, true, false, ◌&&◌, List, [], ◌∷◌, length, map, drop, Option, Some, None, zero, suc, refl, sym, ◌∙◌, ap, subst, cond, arith}
 use Rattle.std.specs.Prelude.{is_none, option_map, option_and_then, slice_get, IfSome}
 use Rattle.std.specs.Option.{unwrap_or}
 use Rattle.std.proofs.lemmas.List.{drop_all}
 use Rattle.mot_base.specs.declared.Party.{Party}
 use Rattle.circuit_values.specs.declared.cause.ValuesCause.{ValuesCause}
 use Rattle.circuit_tables.specs.Table.{Input}
-use Rattle.circuit_values.specs.Values.{values, behind, is_free, value_of, values_of}
+use Rattle.circuit_values.specs.Values.{values, is_free, value_of, values_of}
 use Rattle.circuit_tables.specs.Values.{is_owned}
 use Rattle.text_lines.specs.Text.{Text}
-use Rattle.text_lines.proofs.ReaderLemmas.{IsReadTo, read_more}
+use Rattle.text_lines.proofs.ReaderLemmas.{IsReadTo}
 
 -- how far a text is read
 abbrev pub ReadTo : List Input → Option Party → Text → List (Option (List Bool)) → ℕ → List Text → Type 0
 ReadTo inputs owner text given number left = IsReadTo (List (Option (List Bool))) (List (List Bool)) ValuesCause (values inputs owner) text given number left
-
-pub one_more : (inputs : List Input) (owner : Option Party) (text : Text) (given next : List (Option (List Bool))) (number : ℕ) (here : Text) (left lines : List Text) → ReadTo inputs owner text given number lines → lines ≡ here ∷ left → behind inputs owner given here ≡ Ok next → ReadTo inputs owner text next (number + 1) left
-one_more inputs owner text given next number here left lines to cut e =
-    read_more (List (Option (List Bool))) (List (List Bool)) ValuesCause (values inputs owner) text given next number here left (subst (λ ls. ReadTo inputs owner text given number ls) cut to) e
 
 -- ---- the values
 

@@ -9,14 +9,14 @@ use Rattle.mot_base.specs.declared.Party.{Party}
 use Rattle.share_types.specs.Bits.{bits}
 use Rattle.circuit_values.specs.declared.cause.ValuesCause.{ValuesCause}
 use Rattle.circuit_values.specs.declared.cause.ValuesCause.TheVariants.{NameUnknown, Missing, Twice, TooWide, Word}
-use Rattle.circuit_values.specs.declared.cause.ValuesError.{ValuesError}
-use Rattle.circuit_values.specs.declared.cause.ValuesError.TheVariants.{At, NoMemory}
 use Rattle.circuit_tables.specs.Table.{Input}
 use Rattle.circuit_tables.specs.Values.{is_owned}
 use Rattle.text_lines.specs.Text.{Text, is_allowed, line_words}
 use Rattle.text_lines.specs.Word.{are_digits, begins_hexadecimal}
 use Rattle.text_lines.specs.Chain.{◌>>=◌, or_cause, unless}
 use Rattle.text_lines.specs.LineReader.{LineReader, ReadsAs, FirstFaultOf, ReadsOrFaults}
+use Rattle.text_lines.specs.declared.cause.TextError.{TextError}
+use Rattle.text_lines.specs.Gives.{IsFirstFaultOf}
 
 -- ---- literals
 
@@ -129,9 +129,8 @@ abbrev pub FirstFault : List Input → Option Party → Text → ℕ → ValuesC
 FirstFault inputs owner text line cause = FirstFaultOf (values inputs owner) text line cause
 
 -- an error is the first fault of a text, or memory ran out
-abbrev pub IsFirstFault : List Input → Option Party → Text → ValuesError → Type 0
-IsFirstFault inputs owner text (At line cause) = FirstFault inputs owner text line cause
-IsFirstFault inputs owner text NoMemory = Unit {0}
+abbrev pub IsFirstFault : List Input → Option Party → Text → TextError ValuesCause → Type 0
+IsFirstFault inputs owner text e = IsFirstFaultOf (values inputs owner) text e
 
 -- of every text exactly one is the case: it reads as one list of values, or one line and cause are its
 -- first fault

@@ -1,5 +1,4 @@
-use std::alloc::{AllocError, AllocFailed};
-use text_lines::LineError;
+use text_lines::{LineError, TextError};
 use thiserror::Error;
 
 /// What is wrong with a line of a values text. Within one line the causes are looked for in this order:
@@ -23,38 +22,8 @@ pub enum ValuesCause {
     Word = 5,
 }
 
-/// Why a text was not read as values.
-#[derive(Clone, Copy, Debug, PartialEq, Eq, Error)]
-pub enum ValuesError {
-    /// The first line that shows a cause, and the first cause of that line.
-    #[error("line {line} of the values: {cause}")]
-    At { line: u32, cause: ValuesCause },
-    /// Memory ran out.
-    #[error("there is not enough memory to read the values")]
-    NoMemory,
-}
-
-impl<T: Drop> From<AllocFailed<T>> for ValuesError {
-    ghost use Rattle.std.specs.Prelude.{◌≡◌};
-    ghost use Rattle.circuit_values.specs.declared.cause.ValuesError.TheVariants.{NoMemory};
-
-    ghost from_gives = { λ _ e. e ≡ NoMemory };
-
-    fn from(_error: AllocFailed<T>) -> ValuesError {
-        ValuesError::NoMemory
-    }
-}
-
-impl From<AllocError> for ValuesError {
-    ghost use Rattle.std.specs.Prelude.{◌≡◌};
-    ghost use Rattle.circuit_values.specs.declared.cause.ValuesError.TheVariants.{NoMemory};
-
-    ghost from_gives = { λ _ e. e ≡ NoMemory };
-
-    fn from(_error: AllocError) -> ValuesError {
-        ValuesError::NoMemory
-    }
-}
+/// Why a text was not read as values: the first fault, or want of memory.
+pub type ValuesError = TextError<ValuesCause>;
 
 impl From<ValuesCause> for LineError<ValuesCause> {
     ghost use Rattle.std.specs.Prelude.{◌≡◌};

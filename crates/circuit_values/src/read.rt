@@ -5,8 +5,7 @@ ghost use Rattle.circuit_values.specs.declared.cause.ValuesCause.TheVariants.{Mi
 ghost use Rattle.circuit_tables.specs.Table.{AreNamedApart};
 ghost use Rattle.circuit_values.specs.Values.{is_free, is_literal, assignment_of, behind_words, behind, values_of, ReadsValues, IsFirstFault, EachReadsOrFaults};
 ghost use Rattle.circuit_tables.specs.Values.{is_owned, HaveWidths};
-ghost use Rattle.text_lines.specs.Gives.{Gives};
-ghost use Rattle.circuit_values.specs.Gives.{GivesAt, error_at};
+ghost use Rattle.text_lines.specs.Gives.{Gives, GivesAt};
 
 use crate::asked::Asked;
 use crate::cause::{ValuesCause, ValuesError};
@@ -128,17 +127,7 @@ fn behind_numbered(
 {
     match behind_line(alloc, asked, given, line) {
         Ok(next) => Ok(next),
-        Err(error) => Err(at_line(number, error)),
-    }
-}
-
-/// The error of a line.
-fn at_line(line: u32, error: LineError<ValuesCause>) -> ValuesError
-    ensures { result ≡ error_at line error }
-{
-    match error {
-        LineError::Shows(cause) => ValuesError::At { line, cause },
-        LineError::NoMemory => ValuesError::NoMemory,
+        Err(error) => Err(error.at(number)),
     }
 }
 

@@ -16,8 +16,8 @@ use std::alloc::{AllocError, Global};
 pub fn word_payload(alloc: Global, words: &[u64]) -> Result<Payload, NoMemory>
     ensures { IfOk result (λ payload. payload ≡ word_bytes words.now) }
 {
-    let mut bytes = Vec::with_capacity(alloc, words.len().saturating_mul(8))?;
-    put_words(&mut bytes, words)?;
+    let mut bytes = vec![in alloc; 0; 8 * words.len()]?;
+    BigEndian::write_u64_into(words, &mut bytes);
     Ok(Payload::new(bytes))
 }
 
@@ -52,24 +52,6 @@ pub fn vector_in(payload: &Payload, width: u8, at: usize) -> Option<Bits>
         BigEndian::read_uint(&payload.bytes()[size * at..], size),
         width,
     )
-}
-
-fn put_words(out: &mut Vec<u8>, words: &[u64]) -> Result<(), AllocError>
-    ensures { OnOk result (out.new.items ≡ out.old.items ++ flat_map (big_bytes 8) words.now) }
-{
-    for word in words {
-        put_word(out, *word)?;
-    }
-    Ok(())
-}
-
-/// Writes a word in 8 bytes.
-fn put_word(out: &mut Vec<u8>, word: u64) -> Result<(), AllocError>
-    ensures { OnOk result (out.new.items ≡ out.old.items ++ big_bytes 8 word) }
-{
-    let mut bytes = [0; 8];
-    BigEndian::write_u64(&mut bytes, word);
-    out.extend_from_slice(&bytes)
 }
 
 fn put_vectors(out: &mut Vec<u8>, vectors: &[Bits]) -> Result<(), AllocError>

@@ -1,5 +1,5 @@
 -- What the words of a line state has all that the operation's row has, and nothing else.
-use Rattle.std.proofs.Common.{ℕ, ◌≡◌, ◌≤◌, ◌+◌, ◌^◌, Bool, true, false, ◌&&◌, ◌||◌, List, [], ◌∷◌, ◌++◌, length, Option, Some, None, Ok, refl, sym, ◌∙◌, ap, subst, arith, cond, ◌⊎◌, inl, inr}
+use Rattle.std.proofs.Common.{ℕ, ◌≡◌, ◌≤◌, ◌+◌, ◌^◌, Bool, true, false, ◌&&◌, ◌||◌, List, [], ◌∷◌, ◌++◌, length, Option, Some, None, Ok, refl, sym, ◌∙◌, ap, subst, arith, cond, inl, inr}
 use Rattle.std.specs.Prelude.{◌==◌, option_map, option_and_then, filter, nat_le, nat_lt, IsSome, codes}
 use Rattle.std.specs.List.{list_all, list_any, find}
 use Rattle.std.specs.Str.{bytes_eq}

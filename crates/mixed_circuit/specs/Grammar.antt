@@ -6,8 +6,6 @@ use Rattle.std.specs.Str.{bytes_eq}
 use Rattle.mot_base.specs.Limits.{least_parties, most_parties}
 use Rattle.mixed_circuit.specs.declared.cause.CircuitCause.{CircuitCause}
 use Rattle.mixed_circuit.specs.declared.cause.CircuitCause.TheVariants.{NotText, Header}
-use Rattle.mixed_circuit.specs.declared.cause.CircuitError.{CircuitError}
-use Rattle.mixed_circuit.specs.declared.cause.CircuitError.TheVariants.{At, NoMemory}
 use Rattle.mixed_circuit.specs.declared.read.Stage.{Stage}
 use Rattle.mixed_circuit.specs.declared.read.Stage.TheVariants.{Start, Titled, Body}
 use Rattle.mixed_language.specs.Circuit.{Circuit, no_statements, with_statement}
@@ -15,6 +13,8 @@ use Rattle.mixed_circuit.specs.Line.{said, number_within}
 use Rattle.text_lines.specs.Chain.{or_cause, unless, ◌>>=◌}
 use Rattle.text_lines.specs.Text.{Text, is_allowed, line_words}
 use Rattle.text_lines.specs.LineReader.{LineReader, ReadsAs, FirstFaultOf, ReadsOrFaults}
+use Rattle.text_lines.specs.declared.cause.TextError.{TextError}
+use Rattle.text_lines.specs.Gives.{IsFirstFaultOf}
 
 -- the words are `mixed 1`
 abbrev pub is_title : List Text → Bool
@@ -73,9 +73,8 @@ abbrev pub FirstFault : Text → ℕ → CircuitCause → Type 0
 FirstFault text line cause = FirstFaultOf circuits text line cause
 
 -- an error is the first fault of a text, or memory ran out
-abbrev pub IsFirstFault : Text → CircuitError → Type 0
-IsFirstFault text (At line cause) = FirstFault text line cause
-IsFirstFault text NoMemory = Unit {0}
+abbrev pub IsFirstFault : Text → TextError CircuitCause → Type 0
+IsFirstFault text e = IsFirstFaultOf circuits text e
 
 -- of every text exactly one is the case: it reads as one circuit, or one line and cause are its first fault
 abbrev pub EachReadsOrFaults : Type 0

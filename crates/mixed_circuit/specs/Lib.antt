@@ -1,7 +1,6 @@
 pub mod Line
 pub mod Says
 pub mod Grammar
-pub mod Reading
 pub mod Stated
 pub mod Written
 pub mod Rows

@@ -1,5 +1,4 @@
-use std::alloc::{AllocError, AllocFailed};
-use text_lines::LineError;
+use text_lines::{LineError, TextError};
 use thiserror::Error;
 
 /// What is wrong with a line of a circuit's text. Within one line the causes are looked for in this order:
@@ -39,27 +38,8 @@ pub enum CircuitCause {
     TooMany = 10,
 }
 
-/// Why a text was not read as a circuit.
-#[derive(Clone, Copy, Debug, PartialEq, Eq, Error)]
-pub enum CircuitError {
-    /// The first line that shows a cause, and the first cause of that line.
-    #[error("line {line} of the circuit: {cause}")]
-    At { line: u32, cause: CircuitCause },
-    /// Memory ran out.
-    #[error("there is not enough memory to read the circuit")]
-    NoMemory,
-}
-
-impl From<AllocError> for CircuitError {
-    ghost use Rattle.std.specs.Prelude.{◌≡◌};
-    ghost use Rattle.mixed_circuit.specs.declared.cause.CircuitError.TheVariants.{NoMemory};
-
-    ghost from_gives = { λ _ e. e ≡ NoMemory };
-
-    fn from(_error: AllocError) -> CircuitError {
-        CircuitError::NoMemory
-    }
-}
+/// Why a text was not read as a circuit: the first fault, or want of memory.
+pub type CircuitError = TextError<CircuitCause>;
 
 impl From<CircuitCause> for LineError<CircuitCause> {
     ghost use Rattle.std.specs.Prelude.{◌≡◌};

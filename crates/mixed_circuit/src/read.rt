@@ -1,8 +1,7 @@
 ghost use Rattle.std.specs.Prelude.{◌≡◌, ◌≤◌, ◌+◌, length, map, IfOk, IfErr, IfSome};
 ghost use Rattle.mot_base.specs.Limits.{least_parties, most_parties, most_file_bytes};
 ghost use Rattle.mixed_circuit.specs.Grammar.{is_title, parties_of, behind_words, behind_content, behind, whole, Reads, IsFirstFault, EachReadsOrFaults};
-ghost use Rattle.text_lines.specs.Gives.{Gives};
-ghost use Rattle.mixed_circuit.specs.Reading.{error_at, GivesAt};
+ghost use Rattle.text_lines.specs.Gives.{Gives, GivesAt};
 ghost use Rattle.mixed_circuit.specs.Says.{ReadsWhatIsSaid};
 ghost use Rattle.mixed_circuit.specs.Line.{OneOperation};
 
@@ -59,7 +58,7 @@ pub fn one_operation()
 
 /// The circuit behind the last line, whose number is given.
 fn circuit_of(stage: Stage, last: u32) -> Result<Mixed, CircuitError>
-    ensures { GivesAt last result (whole stage.entry) }
+    ensures { GivesAt (λ c. c) last result (whole stage.entry) }
 {
     match stage {
         Stage::Body(builder) => Ok(builder.finish()),
@@ -80,22 +79,12 @@ fn behind_next<'a>(
 ) -> Result<Stage<'a>, CircuitError>
     requires { number.old ≤ most_file_bytes }
     ensures counted { number.new ≡ number.old + 1 }
-    ensures read { GivesAt (number.old + 1) result (behind stage.entry line.entry.now) }
+    ensures read { GivesAt (λ s. s) (number.old + 1) result (behind stage.entry line.entry.now) }
 {
     *number += 1;
     match behind_line(alloc, text, stage, line) {
         Ok(next) => Ok(next),
-        Err(error) => Err(at_line(*number, error)),
-    }
-}
-
-/// The error of a line.
-fn at_line(line: u32, error: LineError<CircuitCause>) -> CircuitError
-    ensures { result ≡ error_at line error }
-{
-    match error {
-        LineError::Shows(cause) => CircuitError::At { line, cause },
-        LineError::NoMemory => CircuitError::NoMemory,
+        Err(error) => Err(error.at(*number)),
     }
 }
 

@@ -2,7 +2,11 @@
 use Rattle.std.proofs.Common.{ℕ, ◌≡◌, ◌+◌, List, [], ◌∷◌, ◌++◌, length, Result, Ok, Err, refl, sym, ◌∙◌, ap, subst, arith, ◌⊎◌, inl, inr, append_assoc, append-nil}
 use Rattle.std.proofs.lemmas.List.{length-append}
 use Rattle.text_lines.specs.Text.{Text, lines}
+use Rattle.std.specs.Prelude.{IfOk, IfErr}
+use Rattle.text_lines.specs.declared.cause.TextError.{TextError}
+use Rattle.text_lines.specs.declared.cause.TextError.TheVariants as text_error
 use Rattle.text_lines.specs.LineReader.{LineReader, Lead, ReadsAs, ShowsFirst, FirstFaultOf, ReadsOrFaults}
+use Rattle.text_lines.specs.Gives.{FailsAt, GivesAt, IsFirstFaultOf}
 
 module _ (S X C : Type 0) (r : LineReader S X C) where
   -- lines lead on to one line more
@@ -180,3 +184,28 @@ module _ (S X C : Type 0) (r : LineReader S X C) where
 
   pub read_none : (text : Text) → IsReadTo text r.start 0 (lines text)
   read_none text = record { before = []; parts = refl; count = refl; lead = refl }
+
+  -- a text is read one line further, where its next line stands first in what is left
+  pub one_more : (text : Text) (known next : S) (number : ℕ) (here : Text) (behind left : List Text) → IsReadTo text known number left → left ≡ here ∷ behind → r.behind known here ≡ Ok next → IsReadTo text next (number + 1) behind
+  one_more text known next number here behind left to cut e =
+      read_more text known next number here behind (subst (λ ls. IsReadTo text known number ls) cut to) e
+
+  -- an error of the next line is the first fault of the text
+  pub fault_here : (text : Text) (known : S) (number : ℕ) (here : Text) (behind left : List Text) (e : TextError C) → IsReadTo text known number left → left ≡ here ∷ behind → FailsAt (number + 1) e (r.behind known here) → IsFirstFaultOf r text e
+  fault_here text known number here behind left text_error.NoMemory to cut fails = tt
+  fault_here text known number here behind left (text_error.At line cause) to cut fails =
+      let P : ℕ → Type 0 = λ n. FirstFaultOf r text n cause in
+      subst P (sym fails.0) (read_fault text known number here behind cause (subst (λ ls. IsReadTo text known number ls) cut to) fails.1)
+
+  -- what is read behind the last line is what the text reads as
+  pub read_ok : (text : Text) (known : S) (number : ℕ) (left : List Text) (o : Result X (TextError C)) → IsReadTo text known number left → left ≡ [] → GivesAt (λ x. x) number o (r.whole known) → IfOk o (λ x. ReadsAs S X C r text x)
+  read_ok text known number left (Err e) to none gives = tt
+  read_ok text known number left (Ok x) to none gives = read_whole text known number x (subst (λ ls. IsReadTo text known number ls) none to) gives
+
+  -- and an error there is its first fault
+  pub read_at : (text : Text) (known : S) (number : ℕ) (left : List Text) (o : Result X (TextError C)) → IsReadTo text known number left → left ≡ [] → GivesAt (λ x. x) number o (r.whole known) → IfErr o (λ e. IsFirstFaultOf r text e)
+  read_at text known number left (Ok x) to none gives = tt
+  read_at text known number left (Err text_error.NoMemory) to none gives = tt
+  read_at text known number left (Err (text_error.At line cause)) to none gives =
+      let P : ℕ → Type 0 = λ n. FirstFaultOf r text n cause in
+      subst P (sym gives.0) (read_end text known number cause (subst (λ ls. IsReadTo text known number ls) none to) gives.1)

@@ -13,7 +13,7 @@ use Rattle.std.proofs.lemmas.Str.Parse.{without_leading_plus_none}
 use Rattle.text_lines.specs.Text.{Text, is_empty}
 use Rattle.text_lines.specs.Word.{are_digits, number_in}
 use Rattle.mot_base.specs.Names.{is_name, is_letter}
-use Rattle.mot_base.proofs.Lists.{true_both as both, both_true}
+use Rattle.mot_base.proofs.Lists.{both_true}
 
 digit_below : (c base : ℕ) → is_digit c base ≡ true → digit_value c < base
 digit_below c base h = grind (arith, nat_tests)
