@@ -24,12 +24,11 @@ use Rattle.gate_tasks.proofs.Operands.{its_width}
 use Rattle.gate_tasks.proofs.Hearing.{first_of, message_is}
 use Rattle.std.proofs.lemmas.Bool.Decides.{nat_tests}
 use Rattle.std.specs.Prelude.{◌==◌, IfSome}
-use Rattle.std.proofs.Common.{not}
 use Rattle.std.proofs.lemmas.Bool.{eqb-false}
 use Rattle.plan_gates.specs.Plan.{IsPlan}
 use Rattle.plan_gates.specs.Gate.{party_of}
 use Rattle.gate_tasks.proofs.Hearing.{sends, senders_one}
-use Rattle.mot_base.proofs.Lists.{not_true as not_own, same_some as some_is}
+use Rattle.mot_base.proofs.Lists.{same_some as some_is}
 
 pub passes : {X : Type 0} (q : X → Bool) (xs : List X) (i : ℕ) (x : X) → slice_get (filter q xs) i ≡ Some x → q x ≡ true
 passes q [] i x e = cc

@@ -16,7 +16,7 @@ use Rattle.plan_gates.specs.Plan.{Gates}
 use Rattle.plan_gates.specs.Messages.{message}
 use Rattle.gate_tasks.specs.Task.{option_list, KeptFit, slot_from}
 use Rattle.gate_tasks.proofs.Hearing.{filter_next}
-use Rattle.mot_base.proofs.Lists.{nothing_behind as nothing_more, mapped_none as none_of, same_some as some_is}
+use Rattle.mot_base.proofs.Lists.{nothing_behind as nothing_more, same_some as some_is}
 
 pub none_more : {X : Type 0} (o : Option X) → is_none o ≡ true → is_some o ≡ false
 none_more None e = refl

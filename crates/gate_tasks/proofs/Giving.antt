@@ -2,6 +2,8 @@
 use Rattle.std.proofs.Common.{ℕ, zero, suc, ◌≡◌, ◌≢◌, ◌<◌, ◌≤◌, ◌+◌, ◌/◌, ◌%◌, ◌^◌, Bool, true, false, cond, not, ◌&&◌, List, [], ◌∷◌, ◌++◌, length, map, filter, get_or, remove, Option, Some, None, refl, sym, ◌∙◌, ap, ap₂, subst, arith}
 use Rattle.std.specs.Prelude.{◌==◌, slice_get, slice_index, is_some, if◌then◌else◌, bit_xor}
 use Rattle.std.proofs.lemmas.Bool.{ne_eqb, eq-eqb, eqb-true, eqb-false}
+use Rattle.std.specs.List.{flat_map}
+use Rattle.std.proofs.lemmas.Grind.{flat_map-append}
 use Rattle.std.proofs.lemmas.List.{map-append, length-map}
 use Rattle.std.proofs.lemmas.List.FromFn.{get_or-map-range_with_len}
 use Rattle.mot_base.specs.Limits.{most_parties}
@@ -19,7 +21,7 @@ use Rattle.gate_tasks.specs.declared.own.StageEnv.{StageEnv}
 use Rattle.joint_run.proofs.Grown.{got, total_is, grown-get}
 use Rattle.arithmetic_gmw.proofs.Sums.{one_apart}
 use Rattle.gate_tasks.proofs.Hearing.{filter_next}
-use Rattle.mot_base.proofs.Lists.{same_some as some_is, some_at as inside_there}
+use Rattle.mot_base.proofs.Lists.{same_some as some_is}
 
 -- ---- what goes to each receiver
 
@@ -37,6 +39,21 @@ map_filtered (suc n) q f g same =
     one true e = ap (λ y. y ∷ []) (same n (omega arith) e)
     one false e = refl
 
+-- what is made of the first numbers that pass a test, one after another
+pub flat_filtered : {Y : Type 0} (n : ℕ) (q : ℕ → Bool) (f g : ℕ → List Y) → ((k : ℕ) → k < n → q k ≡ true → f k ≡ g k) →
+    flat_map f (filter q (each n (λ k. k))) ≡ flat_map g (filter q (each n (λ k. k)))
+flat_filtered zero q f g same = refl
+flat_filtered (suc n) q f g same =
+    let front = filter q (each n (λ k. k)) in
+    ap (flat_map f) (filter_next q n)
+    ∙ (flat_map-append f front (cond (q n) (n ∷ []) [])
+    ∙ (ap₂ (λ xs ys. xs ++ ys) (flat_filtered n q f g (λ k h. same k (omega (arith, h)))) (one (q n) refl)
+    ∙ (sym (flat_map-append g front (cond (q n) (n ∷ []) [])) ∙ sym (ap (flat_map g) (filter_next q n)))))
+  where
+    one : (b : Bool) → q n ≡ b → flat_map f (cond b (n ∷ []) []) ≡ flat_map g (cond b (n ∷ []) [])
+    one true e = ap (λ y. y ++ []) (same n (omega arith) e)
+    one false e = refl
+
 pub two_of : (b : Bool) (o : Option Message) → is_some (if b then o else None) ≡ true → b ≡ true
 two_of true o e = refl
 two_of false o e = cc
@@ -47,16 +64,16 @@ apart_of true false e = refl
 apart_of false b e = cc
 
 -- a party sends to others alone
-pub is_other : (plan : Gates) (me to g : ℕ) → is_some (message plan me to g 0) ≡ true → to ≢ me
-is_other plan me to g e same =
+pub is_other : (plan : Gates) (me to g round : ℕ) → is_some (message plan me to g round) ≡ true → to ≢ me
+is_other plan me to g round e same =
     eqb-false me to (apart_of _ (me == to) (two_of (are_two plan.parties me to) _ e)) (sym same)
 
-pub outs_same : (env : StageEnv) (f g : ℕ → Payload) →
-    ((to : ℕ) → to < env.plan.now.parties → is_some (message env.plan.now env.own.now.me.0 to env.gate 0) ≡ true → f to ≡ g to) →
-    outs_by env f ≡ outs_by env g
-outs_same env f g same =
-    map_filtered env.plan.now.parties (λ to. is_some (message env.plan.now env.own.now.me.0 to env.gate 0)) (out_by env f) (out_by env g)
-    (λ to h e. ap (λ (p : Payload). record { to = record { 0 = to }; gate = env.gate; round = 0; payload = p }) (same to h e))
+pub outs_same : (env : StageEnv) (round : ℕ) (f g : ℕ → Payload) →
+    ((to : ℕ) → to < env.plan.now.parties → is_some (message env.plan.now env.own.now.me.0 to env.gate round) ≡ true → f to ≡ g to) →
+    outs_by env round f ≡ outs_by env round g
+outs_same env round f g same =
+    map_filtered env.plan.now.parties (λ to. is_some (message env.plan.now env.own.now.me.0 to env.gate round)) (out_by env round f) (out_by env round g)
+    (λ to h e. ap (λ (p : Payload). record { to = record { 0 = to }; gate = env.gate; round = round; payload = p }) (same to h e))
 
 -- ---- words
 

@@ -1,5 +1,5 @@
 -- Who hears whom at a gate.
-use Rattle.std.proofs.Common.{ℕ, zero, suc, ◌≡◌, ◌<◌, ◌+◌, Bool, true, false, cond, not, ◌&&◌, List, [], ◌∷◌, ◌++◌, map, filter, Option, Some, None, inl, inr, refl, sym, ◌∙◌, ap, ap₂, subst, arith}
+use Rattle.std.proofs.Common.{ℕ, zero, suc, ◌≡◌, ◌<◌, ◌+◌, Bool, true, false, cond, not, ◌&&◌, List, [], ◌∷◌, ◌++◌, length, map, filter, Option, Some, None, inl, inr, refl, sym, ◌∙◌, ap, ap₂, subst, arith}
 use Rattle.std.specs.Prelude.{◌==◌, is_some, slice_get, if◌then◌else◌, bit_xor, IfSome}
 use Rattle.std.specs.List.{list_any}
 use Rattle.std.specs.Option.{unwrap_or}
@@ -14,11 +14,11 @@ use Rattle.plan_gates.specs.declared.message.Message.{Message}
 use Rattle.plan_gates.specs.Gate.{Kind, Gate, InA, ConstA, AddA, SubA, AddConstA, MulConstA, MulA, OutA, InB, ConstB, XorB, XorConstB, SliceB, JoinB, AndB, OutB, party_of}
 use Rattle.plan_gates.specs.declared.draft.Sizes.{Sizes}
 use Rattle.plan_gates.specs.Plan.{Gates, IsPlan, sizes_of}
-use Rattle.plan_gates.specs.Messages.{words, vectors, messages_of, messages_at, message, are_two, hears}
+use Rattle.plan_gates.specs.Messages.{words, vectors, messages_of, messages_at, message, are_two, hears, rounds, heard_rounds}
 use Rattle.share_types.specs.Wires.{includes}
 use Rattle.plan_gates.proofs.MessageLemmas.{any_here, any_more}
 use Rattle.gate_tasks.specs.Stage.{senders}
-use Rattle.gate_tasks.specs.ByValue.{hears_at}
+use Rattle.gate_tasks.specs.ByValue.{hears_at, rounds_heard}
 use Rattle.mot_base.proofs.Lists.{and_false}
 
 -- ---- those of the first parties that pass a test
@@ -117,9 +117,12 @@ pub record Here (plan : Gates) (g : ℕ) (kind : Kind) : Type 0 where
   pub there : slice_get plan.gates g ≡ Some gate
   pub of : gate.kind ≡ kind
 
--- the message of a kind in its one round
+-- the message of a round, if there is one, and that of the first round
+abbrev pub entry_at : List (Option Message) → ℕ → Option Message
+entry_at messages round = unwrap_or (slice_get messages round) None
+
 abbrev pub first_of : List (Option Message) → Option Message
-first_of messages = unwrap_or (slice_get messages 0) None
+first_of messages = entry_at messages 0
 
 pub message_is : (plan : Gates) (from to g : ℕ) (gate : Gate) → slice_get plan.gates g ≡ Some gate →
     message plan from to g 0 ≡ (if are_two plan.parties from to then first_of (messages_of gate.kind (sizes_of plan gate) from to) else None)
@@ -246,6 +249,47 @@ module _ (plan : Gates) (me g : ℕ) (gate : Gate) (valid : IsPlan plan) (here :
   hears_is (XorConstB x c) of = told (XorConstB x c) false of (λ q. refl)
   hears_is (SliceB x at) of = told (SliceB x at) false of (λ q. refl)
   hears_is (JoinB x y) of = told (JoinB x y) false of (λ q. refl)
+
+  -- ---- the rounds in which a party hears
+
+  rounds_are : (kind : Kind) → gate.kind ≡ kind → rounds plan g ≡ length (messages_of kind (sizes_of plan gate) 0 0)
+  rounds_are kind of =
+      ap (λ o. length (messages_at plan o 0 0)) here ∙ ap (λ k. length (messages_of k (sizes_of plan gate) 0 0)) of
+
+  pub one_round : (kind : Kind) → gate.kind ≡ kind → length (messages_of kind (sizes_of plan gate) 0 0) ≡ 1 → rounds plan g ≡ 1
+  one_round kind of one = rounds_are kind of ∙ one
+
+  in_one : (kind : Kind) → gate.kind ≡ kind → length (messages_of kind (sizes_of plan gate) 0 0) ≡ 1 →
+      heard_rounds plan me g ≡ rounds_heard (Some kind) me
+  in_one kind of one =
+      ap (λ n. filter (hears plan me g) (each n (λ r. r))) (one_round kind of one)
+      ∙ alone (hears_at (Some kind) me) (hears_is kind of)
+    where
+      alone : (b : Bool) → hears plan me g 0 ≡ b → filter (hears plan me g) (0 ∷ []) ≡ cond b (0 ∷ []) []
+      alone true e = rw e refl
+      alone false e = rw e refl
+
+  in_none : (kind : Kind) → gate.kind ≡ kind → length (messages_of kind (sizes_of plan gate) 0 0) ≡ 0 →
+      heard_rounds plan me g ≡ []
+  in_none kind of none = ap (λ n. filter (hears plan me g) (each n (λ r. r))) (rounds_are kind of ∙ none)
+
+  pub heard_rounds_are : (kind : Kind) → gate.kind ≡ kind → heard_rounds plan me g ≡ rounds_heard (Some kind) me
+  heard_rounds_are (InA party k) of = in_one (InA party k) of refl
+  heard_rounds_are (MulA x y) of = in_one (MulA x y) of refl
+  heard_rounds_are (OutA x receiver) of = in_one (OutA x receiver) of refl
+  heard_rounds_are (InB party k at) of = in_one (InB party k at) of refl
+  heard_rounds_are (AndB x y) of = in_one (AndB x y) of refl
+  heard_rounds_are (OutB x receiver) of = in_one (OutB x receiver) of refl
+  heard_rounds_are (ConstA c) of = in_none (ConstA c) of refl
+  heard_rounds_are (AddA x y) of = in_none (AddA x y) of refl
+  heard_rounds_are (SubA x y) of = in_none (SubA x y) of refl
+  heard_rounds_are (AddConstA x c) of = in_none (AddConstA x c) of refl
+  heard_rounds_are (MulConstA x c) of = in_none (MulConstA x c) of refl
+  heard_rounds_are (ConstB c) of = in_none (ConstB c) of refl
+  heard_rounds_are (XorB x y) of = in_none (XorB x y) of refl
+  heard_rounds_are (XorConstB x c) of = in_none (XorConstB x c) of refl
+  heard_rounds_are (SliceB x at) of = in_none (SliceB x at) of refl
+  heard_rounds_are (JoinB x y) of = in_none (JoinB x y) of refl
 
   -- who sends at a gate at which all send to those who hear
   pub senders_all : (kind : Kind) → gate.kind ≡ kind → ((from : ℕ) → sends kind from me ≡ true) →

@@ -7,3 +7,4 @@ pub mod Staged
 pub mod Running
 pub mod Gathered
 pub mod Waiting
+pub mod Serving

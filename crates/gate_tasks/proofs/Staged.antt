@@ -1,14 +1,16 @@
 -- What a stage computes is what the party's equations say.
-use Rattle.std.proofs.Common.{ℕ, ◌≡◌, ◌<◌, ◌+◌, ◌*◌, ◌/◌, ◌%◌, ◌^◌, Bool, true, false, cond, not, List, [], ◌∷◌, map, filter, get_or, Some, None, refl, sym, ◌∙◌, ap, ap₂, subst, arith}
-use Rattle.std.specs.Prelude.{◌==◌, slice_get, if◌then◌else◌, bit_xor, IfSome}
-use Rattle.std.proofs.lemmas.Bool.{eqb-true, eqb-false, eq-eqb, ne_eqb}
+use Rattle.std.proofs.Common.{ℕ, zero, suc, ◌≡◌, ◌<◌, ◌+◌, ◌*◌, ◌/◌, ◌%◌, ◌^◌, Bool, true, false, cond, not, List, [], ◌∷◌, map, filter, get_or, Option, Some, None, refl, sym, ◌∙◌, ap, ap₂, subst, arith}
+use Rattle.std.specs.Prelude.{◌==◌, slice_get, if◌then◌else◌, bit_xor, is_some, IfSome}
+use Rattle.std.proofs.lemmas.Bool.{eqb-false}
 use Rattle.share_types.specs.Sums.{total, xor_total, sum_to, xor_to, each, word_sum, word_difference, word_product, part_of_public}
 use Rattle.share_types.proofs.Parties.{sum_to_same, xor_to_same}
 use Rattle.arithmetic_gmw.specs.Shares as arithmetic
 use Rattle.boolean_gmw.specs.Shares as boolean
 use Rattle.plan_gates.specs.Gate.{Kind, Gate, InA, ConstA, AddA, SubA, AddConstA, MulConstA, MulA, OutA, InB, ConstB, XorB, XorConstB, SliceB, JoinB, AndB, OutB, operands, party_of, width_at}
+use Rattle.plan_gates.specs.declared.message.Message.{Message}
+use Rattle.plan_gates.specs.declared.draft.Sizes.{Sizes}
 use Rattle.plan_gates.specs.Plan.{Gates, IsPlan}
-use Rattle.plan_gates.specs.Messages.{hears, rounds}
+use Rattle.plan_gates.specs.Messages.{words, vectors, messages_of}
 use Rattle.share_types.specs.Wires.{includes}
 use Rattle.joint_run.specs.Payload.{word_bytes, word_in, vectors_bytes, vector_in}
 use Rattle.joint_run.specs.Party.{Own, Value, WordShare, VectorShare, Told, Payload, Hand, Rounds, hand, word, vector, width, triple, bit_triple, given_word, given_vector, kept_word, kept_vector, opened_word, opened_vector, left_word, right_word, left_vector, right_vector, gate_value, gate_sends, silence}
@@ -18,7 +20,7 @@ use Rattle.gate_tasks.specs.declared.value.Value.{Value as ValueInMemory}
 use Rattle.joint_run.proofs.Grown.{map_map}
 use Rattle.arithmetic_gmw.proofs.Sums.{one_apart}
 use Rattle.boolean_gmw.proofs.Xors.{one_apart as xor_apart}
-use Rattle.gate_tasks.proofs.Hearing.{sends, sum_filtered, xor_filtered, senders_all, senders_one}
+use Rattle.gate_tasks.proofs.Hearing.{entry_at, sends, sum_filtered, xor_filtered, senders_all, senders_one}
 use Rattle.mot_base.proofs.Lists.{equal_turned as turned}
 
 -- ---- opened values
@@ -46,6 +48,19 @@ xor_of_others n me part w inside =
     ∙ xor_to_same n (λ q. cond (not (q == me)) (w q) 0) (λ q. if q == me then 0 else w q) (λ q h. flipped (q == me) (w q)) in
     let same = xor_to_same n (λ q. if q == me then part else w q) (λ q. if me == q then part else w q) (λ q h. ap (λ b. cond b part (w q)) (turned q me)) in
     ap (bit_xor part) rest ∙ (sym (xor_apart n me part w inside) ∙ sym same)
+
+-- ---- the entry of a round in a list of messages
+
+abbrev no_messages : List (Option Message)
+no_messages = []
+
+none_behind : (r : ℕ) → is_some (entry_at no_messages r) ≡ true → ⊥
+none_behind zero e = cc
+none_behind (suc r) e = cc
+
+is_if : (b : Bool) (m : Message) → is_some (if b then Some m else None) ≡ true → b ≡ true
+is_if true m e = refl
+is_if false m e = cc
 
 module _ (plan : Gates) (me g : ℕ) (own : Own) (before : List Value) (got : Rounds) (wires : List ValueInMemory) (heard : List Payload) where
   -- the party's place with its values of the gates before, and without
@@ -159,20 +174,31 @@ module _ (plan : Gates) (me g : ℕ) (own : Own) (before : List Value) (got : Ro
             ap (λ b. Told (cond b (Some (opened_vectors (width h) (vector_at wires 0) 0 heard)) None)) e
             ∙ sym (ap (λ b. Told (cond b (Some (opened_vector h (vector h x) (got 0) 0)) None)) e)
 
-  -- what is sent to those to whom something is sent
-  pub formed_is : (kind : Kind) (rounds : Rounds) (to : ℕ) → Agree kind → is_owned (Some kind) me ≡ false → sends kind me to ≡ true →
-      formed kind h0 wires ≡ get_or (gate_sends kind h rounds) 0 silence to
-  formed_is (InA party k) rounds to agree other e = let owned = turned party me ∙ e in let contrary = sym other ∙ owned in cc
-  formed_is (MulA x y) rounds to agree other e =
+  -- what is sent to those to whom something is sent, whatever the round
+  pub formed_is : (kind : Kind) (sizes : Sizes) (rounds : Rounds) (round to : ℕ) → Agree kind → is_owned (Some kind) me ≡ false →
+      is_some (entry_at (messages_of kind sizes me to) round) ≡ true →
+      get_or (formed kind h0 wires) round [] ≡ get_or (gate_sends kind h rounds) round silence to
+  formed_is (InA party k) sizes rounds zero to agree other e =
+      let owned = turned party me ∙ is_if (me == party) (words 1) e in let contrary = sym other ∙ owned in cc
+  formed_is (InA party k) sizes rounds (suc r) to agree other e = absurd (none_behind r e)
+  formed_is (MulA x y) sizes rounds zero to agree other e =
       ap₂ (λ a b. word_bytes (arithmetic.opened_left a (triple h) ∷ arithmetic.opened_right b (triple h) ∷ [])) (agree 0 x refl).0 (agree 1 y refl).0
-  formed_is (OutA x receiver) rounds to agree other e =
-      ap (λ a. word_bytes (a ∷ [])) (agree 0 x refl).0 ∙ sym (ap (λ b. cond b (word_bytes (word h x ∷ [])) []) e)
-  formed_is (InB party k at) rounds to agree other e = let owned = turned party me ∙ e in let contrary = sym other ∙ owned in cc
-  formed_is (AndB x y) rounds to agree other e =
+  formed_is (MulA x y) sizes rounds (suc r) to agree other e = absurd (none_behind r e)
+  formed_is (OutA x receiver) sizes rounds zero to agree other e =
+      ap (λ a. word_bytes (a ∷ [])) (agree 0 x refl).0
+      ∙ sym (ap (λ b. cond b (word_bytes (word h x ∷ [])) []) (is_if (includes receiver to) (words 1) e))
+  formed_is (OutA x receiver) sizes rounds (suc r) to agree other e = absurd (none_behind r e)
+  formed_is (InB party k at) sizes rounds zero to agree other e =
+      let owned = turned party me ∙ is_if (me == party) (vectors 1 sizes.width) e in let contrary = sym other ∙ owned in cc
+  formed_is (InB party k at) sizes rounds (suc r) to agree other e = absurd (none_behind r e)
+  formed_is (AndB x y) sizes rounds zero to agree other e =
       ap₂ (λ a b. vectors_bytes (width h) (boolean.opened_left a (bit_triple h) ∷ boolean.opened_right b (bit_triple h) ∷ [])) (agree 0 x refl).1 (agree 1 y refl).1
-  formed_is (OutB x receiver) rounds to agree other e =
-      ap (λ a. vectors_bytes (width h) (a ∷ [])) (agree 0 x refl).1 ∙ sym (ap (λ b. cond b (vectors_bytes (width h) (vector h x ∷ [])) []) e)
-  formed_is _ rounds to agree other e = cc
+  formed_is (AndB x y) sizes rounds (suc r) to agree other e = absurd (none_behind r e)
+  formed_is (OutB x receiver) sizes rounds zero to agree other e =
+      ap (λ a. vectors_bytes (width h) (a ∷ [])) (agree 0 x refl).1
+      ∙ sym (ap (λ b. cond b (vectors_bytes (width h) (vector h x ∷ [])) []) (is_if (includes receiver to) (vectors 1 sizes.width) e))
+  formed_is (OutB x receiver) sizes rounds (suc r) to agree other e = absurd (none_behind r e)
+  formed_is _ sizes rounds r to agree other e = absurd (none_behind r e)
 
   pub given_is : (kind : Kind) (rounds : Rounds) (to : ℕ) → is_owned (Some kind) me ≡ true →
       given_out kind h0 to ≡ get_or (gate_sends kind h rounds) 0 silence to

@@ -1,4 +1,5 @@
--- What a stage computes, from the values of its operands and the payloads for which it waits.
+-- What a stage computes, from the values of its operands and the payloads for which it waits. This is internal to the crate:
+-- it repeats the equations of a party (joint_run, Party), and the contract of run_stage speaks of these alone.
 use Rattle.std.specs.Prelude.{ℕ, ◌≡◌, IfSome, Bool, true, false, not, ◌+◌, ◌*◌, ◌/◌, ◌%◌, ◌^◌, ◌==◌, List, [], ◌∷◌, map, get_or, slice_get, Option, Some, None, option_map, if◌then◌else◌, bit_xor}
 use Rattle.share_types.specs.Sums.{word_sum, word_difference, word_product, part_of_public, total, xor_total}
 use Rattle.arithmetic_gmw.specs.Shares as arithmetic
@@ -43,15 +44,15 @@ opening_of_bits h wires =
     vectors_bytes (width h)
     (boolean.opened_left (vector_at wires 0) (bit_triple h) ∷ boolean.opened_right (vector_at wires 1) (bit_triple h) ∷ [])
 
--- the payload that a party sends to all receivers, where the gate is no input
-abbrev pub formed : Kind → Hand → List ValueInMemory → Payload
-formed (MulA x y) h wires = opening h wires
-formed (OutA x receiver) h wires = word_bytes (word_at wires 0 ∷ [])
-formed (AndB x y) h wires = opening_of_bits h wires
-formed (OutB x receiver) h wires = vectors_bytes (width h) (vector_at wires 0 ∷ [])
+-- the payloads that a party sends to all receivers, by round, where the gate is no input
+abbrev pub formed : Kind → Hand → List ValueInMemory → List Payload
+formed (MulA x y) h wires = opening h wires ∷ []
+formed (OutA x receiver) h wires = word_bytes (word_at wires 0 ∷ []) ∷ []
+formed (AndB x y) h wires = opening_of_bits h wires ∷ []
+formed (OutB x receiver) h wires = vectors_bytes (width h) (vector_at wires 0 ∷ []) ∷ []
 formed _ h wires = []
 
--- the payload of an input's owner to a party
+-- the payload of an input's owner to a party, in the first round
 abbrev pub given_out : Kind → Hand → ℕ → Payload
 given_out (InA party k) h to = word_bytes (given_word h to ∷ [])
 given_out (InB party k at) h to = vectors_bytes (width h) (given_vector h to ∷ [])
@@ -102,9 +103,9 @@ kind_in env = kind_at env.plan.now.gates env.gate
 abbrev pub stand : StageEnv → Hand
 stand env = hand_in env []
 
-abbrev pub formed_of : Option Kind → Hand → List ValueInMemory → Payload
-formed_of None h wires = []
-formed_of (Some kind) h wires = formed kind h wires
+abbrev pub formed_of : Option Kind → Hand → List ValueInMemory → ℕ → Payload
+formed_of None h wires round = []
+formed_of (Some kind) h wires round = get_or (formed kind h wires) round []
 
 abbrev pub given_of : Option Kind → Hand → ℕ → Payload
 given_of None h to = []
@@ -189,3 +190,7 @@ hears_at (Some (InB party k at)) me = not (party == me)
 hears_at (Some (AndB x y)) me = true
 hears_at (Some (OutB x to)) me = includes to me
 hears_at _ me = false
+
+-- the rounds in which it hears something there, in order
+abbrev pub rounds_heard : Option Kind → ℕ → List ℕ
+rounds_heard kind me = if hears_at kind me then 0 ∷ [] else []

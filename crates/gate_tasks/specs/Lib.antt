@@ -3,3 +3,5 @@ pub mod ByValue
 pub mod Sending
 pub mod Wires
 pub mod Task
+pub mod Serving
+pub mod Report

@@ -12,7 +12,7 @@ use Rattle.plan_gates.specs.Gate as plan
 use Rattle.plan_gates.specs.Plan.{Gates}
 use Rattle.plan_gates.specs.Needs.{offset, needs_at}
 use Rattle.plan_gates.specs.declared.message.Message.{Message}
-use Rattle.plan_gates.specs.Messages.{message, hears, rounds, stages, awaits}
+use Rattle.plan_gates.specs.Messages.{message, rounds, stages, awaits, sent_in}
 use Rattle.joint_run.specs.Party.{Own, Value, WordShare, VectorShare, Told, Payload, Rounds, Hand, hand, value_at, round_sends}
 use Rattle.joint_run.specs.Honest.{Taken, taken_by}
 use Rattle.gate_tasks.specs.declared.value.Value.{Value as ValueInMemory}
@@ -59,12 +59,10 @@ senders plan me g round = filter (λ from. is_some (message plan from me g round
 abbrev pub receivers : Gates → ℕ → ℕ → ℕ → List ℕ
 receivers plan me g round = filter (λ to. is_some (message plan me to g round)) (each plan.parties (λ p. p))
 
--- the rounds that a party sends in a stage: those before which it receives in as many rounds as stages were before
+-- the rounds that a party sends in a stage, in order
 abbrev pub rounds_sent : Gates → ℕ → ℕ → ℕ → List ℕ
 rounds_sent plan me g stage =
-    filter
-    (λ round. length (filter (hears plan me g) (each round (λ r. r))) == stage)
-    (each (rounds plan g) (λ r. r))
+    filter (λ round. sent_in plan me g round == stage) (each (rounds plan g) (λ r. r))
 
 -- whether a stage is a party's last one at a gate
 abbrev pub is_last : Gates → ℕ → ℕ → ℕ → Bool
@@ -96,11 +94,15 @@ outs_of h got stage = flat_map (outs_in h got) (rounds_sent h.plan h.me h.gate s
 abbrev pub formed_in : Hand → Rounds → ℕ → List Payload
 formed_in h got round = map (λ out. out.payload) (take 1 (outs_in h got round))
 
+-- what a stage adds to what is carried: the payloads that the party forms in it, by round
+abbrev pub kept_in : Hand → Rounds → ℕ → List Payload
+kept_in h got stage = flat_map (formed_in h got) (rounds_sent h.plan h.me h.gate stage)
+
 -- the payloads that a party formed in the stages before one, by round
 abbrev pub formed_before : Hand → Rounds → ℕ → List Payload
 formed_before h got zero = []
 formed_before h got (suc stage) =
-    formed_before h got stage ++ flat_map (formed_in h got) (rounds_sent h.plan h.me h.gate stage)
+    formed_before h got stage ++ kept_in h got stage
 
 -- what is carried to a stage: the payloads formed before, and nothing to the first one
 abbrev pub carried_to : Hand → Rounds → ℕ → Option (List Payload)

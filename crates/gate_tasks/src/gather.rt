@@ -70,7 +70,7 @@ fn slot_lacking(env: &Env, gate: u32, round: u8) -> Option<Slot>
 }
 
 /// The values that are held of a gate's operands.
-pub(crate) fn held_values(alloc: Global, env: &Env, gate: u32) -> Result<Vec<Value>, NoMemory>
+pub fn held_values(alloc: Global, env: &Env, gate: u32) -> Result<Vec<Value>, NoMemory>
     requires { gate < length env.now.plan.now.gates }
     ensures { IfOk result (λ values. values.items
         ≡ held_values env.now.wires.now (operands_at env.now.plan.now.gates gate)) }
@@ -102,7 +102,7 @@ fn push_held(
 }
 
 /// The payloads that came of those that are sent to the party in a round, by sender, and none without a round.
-pub(crate) fn kept_payloads(
+pub fn kept_payloads(
     alloc: Global,
     env: &Env,
     gate: u32,

@@ -26,7 +26,7 @@ pub(crate) fn give_word(alloc: Global, env: &StageEnv, k: u32) -> Result<(u64, O
     requires input { most_width ≤ length (get_or env.now.own.now.inputs k []) }
     ensures kept { IfOk result (λ given. given.0 ≡ kept_word (stand env.now) k) }
     ensures sent { IfOk result (λ given. given.1
-        ≡ outs_by env.now (λ to. word_bytes (given_word (stand env.now) to ∷ []))) }
+        ≡ outs_by env.now 0 (λ to. word_bytes (given_word (stand env.now) to ∷ []))) }
 {
     let own = env.own;
     let x = own.inputs.bits(k, 0, MAX_WIDTH).word;
@@ -40,7 +40,7 @@ pub(crate) fn give_word(alloc: Global, env: &StageEnv, k: u32) -> Result<(u64, O
         env.plan.parties(),
     )?;
     let share = shares[usize::from(own.me.0)];
-    let outs = outs(alloc, env, &ToSend::Words(shares))?;
+    let outs = outs(alloc, env, 0, &ToSend::Words(shares))?;
     Ok((share, outs))
 }
 
@@ -58,7 +58,7 @@ pub(crate) fn give_vector(
     ensures kept { IfOk result (λ given. given.0.word ≡ kept_vector (stand env.now) k at) }
     ensures width { IfOk result (λ given. given.0.width ≡ width (stand env.now)) }
     ensures sent { IfOk result (λ given. given.1
-        ≡ outs_by env.now
+        ≡ outs_by env.now 0
         (λ to. vectors_bytes (width (stand env.now)) (given_vector (stand env.now) to ∷ []))) }
 {
     let own = env.own;
@@ -73,6 +73,6 @@ pub(crate) fn give_vector(
         env.plan.parties(),
     )?;
     let kept = shares[usize::from(own.me.0)];
-    let outs = outs(alloc, env, &ToSend::Vectors(shares))?;
+    let outs = outs(alloc, env, 0, &ToSend::Vectors(shares))?;
     Ok((kept, outs))
 }

@@ -8,6 +8,7 @@ mod input;
 mod operand;
 mod outgoing;
 mod own;
+mod report;
 mod sending;
 mod stage;
 mod step;
@@ -15,6 +16,7 @@ mod task;
 mod value;
 mod wires;
 
+pub use gather::{held_values, kept_payloads};
 pub use joint_run::{
     Own, a_party_follows, every_gate_recombines, one_joint_run, payloads_have_their_lengths,
     payloads_have_their_shapes, payloads_read_back, tape_uses_never_meet, vector_in,
@@ -22,6 +24,7 @@ pub use joint_run::{
 };
 pub use outgoing::{Carried, Out, Outs};
 pub use own::{Env, StageEnv};
+pub use report::PartyReport;
 pub use stage::{StageOut, run_stage};
 pub use step::{Need, Step};
 pub use task::GateTask;

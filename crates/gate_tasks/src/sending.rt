@@ -1,10 +1,10 @@
 //! What a stage sends.
 
-ghost use Rattle.std.specs.Prelude.{◌≡◌, ◌<◌, ℕ, true, length, IfOk};
+ghost use Rattle.std.specs.Prelude.{◌≡◌, ◌<◌, ◌++◌, ℕ, true, length, IfOk, OnOk};
 ghost use Rattle.plan_gates.specs.Plan.{IsPlan};
-ghost use Rattle.gate_tasks.specs.Stage.{Serves, AreOperands};
+ghost use Rattle.gate_tasks.specs.Stage.{Serves, AreOperands, rounds_sent};
 ghost use Rattle.gate_tasks.specs.ByValue.{kind_in, stand, is_product, is_conjunction, formed_of, opening, opening_of_bits};
-ghost use Rattle.gate_tasks.specs.Sending.{payload_for, HasFor, outs_by};
+ghost use Rattle.gate_tasks.specs.Sending.{payload_for, HasFor, outs_by, first_payload, round_outs, outs_for, kept_for};
 
 use crate::operand::{bit_triple, mult_triple, vector_at, word_at};
 use crate::outgoing::{Out, Outs};
@@ -38,12 +38,90 @@ impl ToSend {
     }
 }
 
-/// The payload that a party forms at a gate, and an empty one where it forms none. Of an input it is empty.
-pub(crate) fn formed(alloc: Global, env: &StageEnv, wires: &[Value]) -> Result<Payload, NoMemory>
+/// The messages of all rounds that a party sends in a stage of a gate that is no input of its own. The first payload of
+/// each round is added to what is carried.
+pub(crate) fn stage_outs(
+    alloc: Global,
+    env: &StageEnv,
+    stage: u8,
+    wires: &[Value],
+    kept: &mut Vec<Payload>,
+) -> Result<Outs, NoMemory>
     requires plan { IsPlan env.now.plan.now }
     requires serves { Serves env.now.plan.now env.now.own.now env.now.part.now env.now.gate }
     requires operands { AreOperands env.now.plan.now env.now.gate wires.now }
-    ensures { IfOk result (λ payload. payload ≡ formed_of (kind_in env.now) (stand env.now) wires.now) }
+    ensures outs { IfOk result (λ outs. outs
+        ≡ outs_for env.now (formed_of (kind_in env.now) (stand env.now) wires.now)
+        (rounds_sent env.now.plan.now env.now.own.now.me.0 env.now.gate stage)) }
+    ensures kept { OnOk result (kept.new.items ≡ kept.old.items
+        ++ kept_for env.now (formed_of (kind_in env.now) (stand env.now) wires.now)
+        (rounds_sent env.now.plan.now env.now.own.now.me.0 env.now.gate stage)) }
+{
+    let mut outs = Vec::new(alloc);
+    for round in 0..env.plan.rounds(env.gate) {
+        if env.plan.sent_in(env.own.me, env.gate, round) != stage {
+            continue;
+        }
+        push_round(alloc, env, round, wires, &mut outs, kept)?;
+    }
+    Ok(Outs::new(outs))
+}
+
+/// Adds the messages of a round of such a gate at the end, and the payload of the first of them to what is carried.
+fn push_round(
+    alloc: Global,
+    env: &StageEnv,
+    round: u8,
+    wires: &[Value],
+    outs: &mut Vec<Out>,
+    kept: &mut Vec<Payload>,
+) -> Result<(), NoMemory>
+    requires plan { IsPlan env.now.plan.now }
+    requires serves { Serves env.now.plan.now env.now.own.now env.now.part.now env.now.gate }
+    requires operands { AreOperands env.now.plan.now env.now.gate wires.now }
+    ensures outs { OnOk result (outs.new.items ≡ outs.old.items
+        ++ round_outs env.now (formed_of (kind_in env.now) (stand env.now) wires.now) round) }
+    ensures kept { OnOk result (kept.new.items ≡ kept.old.items
+        ++ first_payload (round_outs env.now (formed_of (kind_in env.now) (stand env.now) wires.now) round)) }
+{
+    let payload = formed(alloc, env, round, wires)?;
+    let first = outs.len();
+    push_outs(alloc, env, round, &ToSend::Same(payload), outs)?;
+    keep_first(alloc, &outs[first..], kept)?;
+    Ok(())
+}
+
+/// Adds the payload of the first of some messages at the end, if there is one.
+fn keep_first(alloc: Global, outs: &[Out], kept: &mut Vec<Payload>) -> Result<(), NoMemory>
+    ensures { OnOk result (kept.new.items ≡ kept.old.items ++ first_payload outs.now) }
+{
+    if let Some(out) = outs.first() {
+        kept.push(out.payload.copy(alloc)?)?;
+    }
+    Ok(())
+}
+
+/// The payload that a party forms in a round of a gate, and an empty one where it forms none. Of an input it is empty.
+fn formed(alloc: Global, env: &StageEnv, round: u8, wires: &[Value]) -> Result<Payload, NoMemory>
+    requires plan { IsPlan env.now.plan.now }
+    requires serves { Serves env.now.plan.now env.now.own.now env.now.part.now env.now.gate }
+    requires operands { AreOperands env.now.plan.now env.now.gate wires.now }
+    ensures { IfOk result (λ payload.
+        payload ≡ formed_of (kind_in env.now) (stand env.now) wires.now round) }
+{
+    match round {
+        0 => first_formed(alloc, env, wires),
+        _ => Ok(Payload::new(Vec::new(alloc))),
+    }
+}
+
+/// The same in the first round.
+fn first_formed(alloc: Global, env: &StageEnv, wires: &[Value]) -> Result<Payload, NoMemory>
+    requires plan { IsPlan env.now.plan.now }
+    requires serves { Serves env.now.plan.now env.now.own.now env.now.part.now env.now.gate }
+    requires operands { AreOperands env.now.plan.now env.now.gate wires.now }
+    ensures { IfOk result (λ payload.
+        payload ≡ formed_of (kind_in env.now) (stand env.now) wires.now 0) }
 {
     match env.plan.gate(env.gate) {
         GateKind::MulA { .. } => opening(alloc, env, wires),
@@ -80,22 +158,48 @@ fn opening_of_bits(alloc: Global, env: &StageEnv, wires: &[Value]) -> Result<Pay
     vector_payload(alloc, &[d, e])
 }
 
-/// The messages of a gate's first round, one to each party for which the plan has one, in rising order.
-pub(crate) fn outs(alloc: Global, env: &StageEnv, sent: &ToSend) -> Result<Outs, NoMemory>
+/// The messages of a round alone, as `push_outs` makes them.
+pub(crate) fn outs(
+    alloc: Global,
+    env: &StageEnv,
+    round: u8,
+    sent: &ToSend,
+) -> Result<Outs, NoMemory>
     requires gate { env.now.gate < length env.now.plan.now.gates }
     requires each { (to : ℕ) → to < env.now.plan.now.parties → HasFor sent.now to }
-    ensures { IfOk result (λ outs. outs ≡ outs_by env.now (payload_for sent.now)) }
+    ensures { IfOk result (λ outs. outs ≡ outs_by env.now round (payload_for sent.now)) }
 {
     let mut outs = Vec::new(alloc);
+    push_outs(alloc, env, round, sent, &mut outs)?;
+    Ok(Outs::new(outs))
+}
+
+/// Adds the messages of a round of a gate at the end, one to each party for which the plan has one, in rising order.
+fn push_outs(
+    alloc: Global,
+    env: &StageEnv,
+    round: u8,
+    sent: &ToSend,
+    outs: &mut Vec<Out>,
+) -> Result<(), NoMemory>
+    requires gate { env.now.gate < length env.now.plan.now.gates }
+    requires each { (to : ℕ) → to < env.now.plan.now.parties → HasFor sent.now to }
+    ensures { OnOk result
+        (outs.new.items ≡ outs.old.items ++ outs_by env.now round (payload_for sent.now)) }
+{
     for to in 0..env.plan.parties() {
-        if env.plan.slot(env.own.me, Party(to), env.gate, 0).is_some() {
+        if env
+            .plan
+            .slot(env.own.me, Party(to), env.gate, round)
+            .is_some()
+        {
             outs.push(Out {
                 to: Party(to),
                 gate: env.gate,
-                round: 0,
+                round,
                 payload: sent.payload(alloc, Party(to))?,
             })?;
         }
     }
-    Ok(Outs::new(outs))
+    Ok(())
 }

@@ -1,21 +1,21 @@
 //! One stage of a gate at a party, with its inputs by value.
 
-ghost use Rattle.std.specs.Prelude.{◌≡◌, ◌<◌, true, false, List, [], length, slice_get, Some, None, option_map, IfOk, IfSome, if◌then◌else◌};
+ghost use Rattle.std.specs.Prelude.{◌≡◌, ◌<◌, ◌+◌, true, false, List, [], length, slice_get, Some, None, option_map, IfOk, IfSome};
 ghost use Rattle.std.specs.Option.{unwrap_or};
 ghost use Rattle.plan_gates.specs.Plan.{IsPlan};
 ghost use Rattle.plan_gates.specs.Gate.{Gate};
 ghost use Rattle.plan_gates.specs.Messages.{stages, awaits};
 ghost use Rattle.joint_run.specs.Party as party;
 ghost use Rattle.joint_run.specs.Party.{Rounds, width};
-ghost use Rattle.gate_tasks.specs.ByValue.{kind_in, stand, gives_of, IsGiven, hears_at, is_owned, value_of_stage, formed_of, given_of};
-ghost use Rattle.gate_tasks.specs.Sending.{outs_by, carried_with};
+ghost use Rattle.gate_tasks.specs.ByValue.{kind_in, stand, gives_of, IsGiven, is_owned, value_of_stage, given_of};
+ghost use Rattle.gate_tasks.specs.Sending.{outs_by};
 ghost use Rattle.gate_tasks.specs.Stage.{value_of, hand_in, IsOf, IsStage, Gives, Serves, AreOperands, AreAwaited};
 
 use crate::finish::{heard_value, own_value};
 use crate::input::{give_vector, give_word};
 use crate::outgoing::{Carried, Outs};
 use crate::own::StageEnv;
-use crate::sending::{ToSend, formed, outs};
+use crate::sending::stage_outs;
 use crate::value::Value;
 use mot_base::{NoMemory, Payload};
 use plan_gates::GateKind;
@@ -57,11 +57,12 @@ pub fn run_stage(
     if owns_input(env) {
         return input_stage(alloc, env);
     }
-    if stage == 0 {
-        return first_stage(alloc, env, wires, carried);
+    let mut kept = payloads_carried(alloc, carried);
+    let out = stage_outs(alloc, env, stage, wires, &mut kept)?;
+    if env.plan.stages(env.own.me, env.gate) > stage + 1 {
+        return Ok(early_stage(kept, out));
     }
-    let value = heard_value(env, wires, payloads);
-    Ok(last_stage(value, Outs::new(Vec::new(alloc))))
+    Ok(last_stage(last_value(env, stage, wires, payloads), out))
 }
 
 /// That the plan is valid, and the party one of the plan's.
@@ -74,6 +75,17 @@ fn is_placed(env: &StageEnv)
     let _gates = env.plan.gates();
 }
 
+/// What a stage gives that is not the last one.
+fn early_stage(kept: Vec<Payload>, out: Outs) -> StageOut
+    ensures { result ≡ record { carried = Some kept.items; value = None; out = out } }
+{
+    StageOut {
+        carried: Some(Carried::new(kept)),
+        value: None,
+        out,
+    }
+}
+
 /// What the last stage gives.
 fn last_stage(value: Value, out: Outs) -> StageOut
     ensures { result ≡ record { carried = None; value = Some value; out = out } }
@@ -82,6 +94,28 @@ fn last_stage(value: Value, out: Outs) -> StageOut
         carried: None,
         value: Some(value),
         out,
+    }
+}
+
+/// The value that the last stage of a gate gives that is no input of the party's own.
+fn last_value(env: &StageEnv, stage: u8, wires: &[Value], payloads: &[Payload]) -> Value
+    requires plan { IsPlan env.now.plan.now }
+    requires serves { Serves env.now.plan.now env.now.own.now env.now.part.now env.now.gate }
+    requires operands { AreOperands env.now.plan.now env.now.gate wires.now }
+    requires me { env.now.own.now.me.0 < env.now.plan.now.parties }
+    requires others { is_owned (kind_in env.now) env.now.own.now.me.0 ≡ false }
+    requires last { stages env.now.plan.now env.now.own.now.me.0 env.now.gate ≡ stage + 1 }
+    requires payloads { let me = env.now.own.now.me.0 in
+        AreAwaited env.now.plan.now me env.now.gate
+        (awaits env.now.plan.now me env.now.gate stage) payloads.now }
+    ensures value { value_of result
+        ≡ value_of_stage (kind_in env.now) (stand env.now) wires.now payloads.now }
+    ensures typed { IsGiven (gives_of (kind_in env.now)) (width (stand env.now)) result }
+{
+    if stage == 0 {
+        own_value(env, wires)
+    } else {
+        heard_value(env, wires, payloads)
     }
 }
 
@@ -106,7 +140,7 @@ fn input_stage(alloc: Global, env: &StageEnv) -> Result<StageOut, NoMemory>
     ensures value { IfOk result (λ given. option_map value_of given.value
         ≡ Some (value_of_stage (kind_in env.now) (stand env.now) [] [])) }
     ensures out { IfOk result (λ given. given.out
-        ≡ outs_by env.now (given_of (kind_in env.now) (stand env.now))) }
+        ≡ outs_by env.now 0 (given_of (kind_in env.now) (stand env.now))) }
     ensures typed { IfOk result (λ given. IfSome given.value
         (IsGiven (gives_of (kind_in env.now)) (width (stand env.now)))) }
 {
@@ -121,53 +155,6 @@ fn input_stage(alloc: Global, env: &StageEnv) -> Result<StageOut, NoMemory>
         }
         _ => unreachable!(),
     }
-}
-
-/// The first stage of a gate that is no input of the party's own.
-fn first_stage(
-    alloc: Global,
-    env: &StageEnv,
-    wires: &[Value],
-    carried: Option<Carried>,
-) -> Result<StageOut, NoMemory>
-    requires plan { IsPlan env.now.plan.now }
-    requires serves { Serves env.now.plan.now env.now.own.now env.now.part.now env.now.gate }
-    requires operands { AreOperands env.now.plan.now env.now.gate wires.now }
-    requires me { env.now.own.now.me.0 < env.now.plan.now.parties }
-    requires others { is_owned (kind_in env.now) env.now.own.now.me.0 ≡ false }
-    ensures out { IfOk result (λ given. given.out
-        ≡ outs_by env.now (λ to. formed_of (kind_in env.now) (stand env.now) wires.now)) }
-    ensures value { IfOk result (λ given. option_map value_of given.value
-        ≡ (if hears_at (kind_in env.now) env.now.own.now.me.0 then None
-        else Some (value_of_stage (kind_in env.now) (stand env.now) wires.now []))) }
-    ensures carried { IfOk result (λ given. given.carried
-        ≡ (if hears_at (kind_in env.now) env.now.own.now.me.0
-        then Some (carried_with carried given.out) else None)) }
-    ensures typed { IfOk result (λ given. IfSome given.value
-        (IsGiven (gives_of (kind_in env.now)) (width (stand env.now)))) }
-{
-    let formed = formed(alloc, env, wires)?;
-    let out = outs(alloc, env, &ToSend::Same(formed))?;
-    if env.plan.stages(env.own.me, env.gate) == 1 {
-        return Ok(last_stage(own_value(env, wires), out));
-    }
-    let carried = carry(alloc, carried, &out)?;
-    Ok(StageOut {
-        carried: Some(carried),
-        value: None,
-        out,
-    })
-}
-
-/// What is carried, with the payload of the first message more, if there is one.
-fn carry(alloc: Global, carried: Option<Carried>, out: &Outs) -> Result<Carried, NoMemory>
-    ensures { IfOk result (λ more. more ≡ carried_with carried out.now) }
-{
-    let mut payloads = payloads_carried(alloc, carried);
-    if let Some(first) = out.as_slice().first() {
-        payloads.push(first.payload.copy(alloc)?)?;
-    }
-    Ok(Carried::new(payloads))
 }
 
 /// The payloads that are carried, if something is.

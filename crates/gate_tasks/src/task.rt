@@ -1,6 +1,6 @@
 //! A gate of one party as a task.
 
-ghost use Rattle.std.specs.Prelude.{◌≡◌, ◌<◌, List, Some, None, slice_get, option_map, IfOk, IfSome, IsSome, OnErr};
+ghost use Rattle.std.specs.Prelude.{◌≡◌, ◌<◌, ◌+◌, List, Some, None, slice_get, option_map, IfOk, IfSome, IsSome, OnErr};
 ghost use Rattle.plan_gates.specs.Gate.{Gate};
 ghost use Rattle.plan_gates.specs.Messages.{stages, awaits};
 ghost use Rattle.joint_run.specs.Party as party;
@@ -88,15 +88,14 @@ impl GateTask {
         match given.value {
             Some(value) => Ok(Step::Done(value, given.out)),
             None => {
-                self.stage += 1;
-                self.carried = given.carried;
+                self.advance(given.carried);
                 Ok(Step::Sent(given.out))
             }
         }
     }
 
-    /// Runs the next stage, which lacks nothing.
-    fn run(&self, alloc: Global, env: &Env) -> Result<StageOut, NoMemory>
+    /// Gathers what the next stage takes and runs it. It lacks nothing.
+    pub fn run(&self, alloc: Global, env: &Env) -> Result<StageOut, NoMemory>
         requires serves { Serves env.now.plan.now env.now.own.now env.now.part.now self.now.gate }
         requires stage { self.now.stage < stages env.now.plan.now env.now.own.now.me.0 self.now.gate }
         requires wires { HoldTypes env.now.plan.now self.now.gate env.now.wires.now }
@@ -124,6 +123,15 @@ impl GateTask {
         let payloads = kept_payloads(alloc, env, self.gate, round)?;
         let carried = copy_carried(alloc, &self.carried)?;
         run_stage(alloc, &place, self.stage, &wires, carried, &payloads)
+    }
+
+    /// Moves on to the next stage, with what the one that was run gave to carry.
+    pub fn advance(&mut self, carried: Option<Carried>)
+        requires { self.old.stage < 255 }
+        ensures { self.new ≡ record self.old { stage = self.old.stage + 1; carried = carried } }
+    {
+        self.stage += 1;
+        self.carried = carried;
     }
 }
 

@@ -14,7 +14,7 @@ few (JoinB x y) = omega arith
 few (AndB x y) = omega arith
 few _ = omega arith
 
-few_of : (k : Option Kind) → length (operands_of k) ≤ 2
+pub few_of : (k : Option Kind) → length (operands_of k) ≤ 2
 few_of None = omega arith
 few_of (Some k) = few k
 

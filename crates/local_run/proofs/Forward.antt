@@ -1,8 +1,8 @@
 -- Each edge leads from an item to a later one, or to the end.
-use Rattle.std.proofs.Common.{◌≡◌, ◌≢◌, ℕ, zero, suc, ◌+◌, ◌<◌, ◌≤◌, ◌^◌, Bool, true, false, cond, eqb, ltb, leb, List, [], ◌∷◌, ◌++◌, length, map, Option, Some, None, refl, sym, ap, ◌∙◌, subst, arith, ⊎_elim}
+use Rattle.std.proofs.Common.{◌≡◌, ◌≢◌, ℕ, zero, suc, ◌+◌, ◌<◌, ◌≤◌, ◌^◌, Bool, true, false, cond, ltb, leb, List, [], ◌∷◌, ◌++◌, length, map, Option, Some, None, inl, inr, ◌⊎◌, refl, sym, ap, ◌∙◌, subst, arith, ⊎_elim}
 use Rattle.std.specs.Prelude.{slice_get, get_or, is_some}
 use Rattle.std.specs.List.{AllByRecursion, position}
-use Rattle.std.proofs.lemmas.Bool.{cases_eq, lt-ltb, false≢true}
+use Rattle.std.proofs.lemmas.Bool.{cases_eq, cases_lt, lt-ltb, false≢true}
 use Rattle.std.proofs.lemmas.Bool.Decides.{nat_tests}
 use Rattle.std.proofs.lemmas.List.{length-append, length-map, map-append}
 use Rattle.std.proofs.lemmas.List.Elements.{filter-append}
@@ -13,17 +13,18 @@ use Rattle.share_types.proofs.Parties.{length-each}
 use Rattle.turn_core.specs.declared.edge.Edge.{Edge}
 use Rattle.turn_core.specs.declared.edge.TheConstants.{TERMINAL}
 use Rattle.turn_core.specs.Graph.{has_bad_end, goes_back, first_bad_end, first_back}
-use Rattle.mot_base.specs.declared.Party.{Party}
 use Rattle.plan_gates.specs.Plan.{Gates, IsPlan}
-use Rattle.plan_gates.specs.Messages.{hears, message}
+use Rattle.plan_gates.specs.Messages.{hears, rounds, awaits, sent_in, message}
+use Rattle.plan_gates.proofs.MessageLemmas.{waits, awaits_heard, passing_fewer}
 use Rattle.gate_tasks.specs.Stage.{operands_at, senders}
 use Rattle.joint_run.proofs.Grown.{there_is}
 use Rattle.local_run.specs.declared.item.Item.{Item}
 use Rattle.local_run.specs.declared.item.Load.{Load}
 use Rattle.local_run.specs.declared.item.Load.TheVariants.{Wire, Message}
-use Rattle.local_run.specs.Items.{item, listeners, items_of, items_before, first_item, all_items, number_of, IsItem}
-use Rattle.local_run.specs.Loads.{party, wires_to, heard_by, loads_to, loads_at, reports_loads, giver, IsGiven, edge_to, edges_before, all_edges}
-use Rattle.local_run.proofs.Numbers.{place_of, place_found, number_within, few_items}
+use Rattle.local_run.specs.Items.{item, listeners, waiting, items_waiting, items_behind, items_of, items_before, first_item, all_items, place_by, place_of, number_of, IsItem}
+use Rattle.local_run.specs.Loads.{party, wires_to, waited_for, loads_to, loads_at, reports_loads, giver, IsGiven, edge_to, edges_before, all_edges}
+use Rattle.local_run.proofs.Lists.{passing_found}
+use Rattle.local_run.proofs.Numbers.{place_found, number_within, few_items}
 use Rattle.local_run.proofs.Valid.{all_map, all_passing, Passes, operands_are_before, wire_given, item_is, reports_given}
 use Rattle.mot_base.proofs.Lists.{same_some as some_is, all_append, all_implied as all_more, all_at}
 
@@ -55,30 +56,42 @@ firsts_numbered plan g (suc n) =
     let at : first_item plan g + length (each n (item g 0)) ≡ first_item plan g + n = ap (λ (m : ℕ). first_item plan g + m) (length-each n (item g 0)) in
     numbered_append plan (first_item plan g) (each n (item g 0)) (item g 0 n ∷ []) (firsts_numbered plan g n) (sym at, tt)
 
-second_numbered : (plan : Gates) (g n : ℕ) (b : Bool) →
-    NumberedFrom plan (first_item plan g + (plan.parties + length (listeners plan g n))) (map (item g 1) (cond b (n ∷ []) []))
-second_numbered plan g n true = (refl, tt)
-second_numbered plan g n false = tt
+-- a stage that waits for a round has the number of its place
+waiting_number : (plan : Gates) (g round p : ℕ) → round < rounds plan g → hears plan p g round ≡ true →
+    number_of plan (waiting plan g round p) ≡ first_item plan g + (plan.parties + (length (items_behind plan g round) + length (listeners plan g round p)))
+waiting_number plan g round p inside heard =
+    ap (λ (o : Option ℕ). first_item plan g + place_by plan g p o) (awaits_heard plan p g round inside heard)
 
-seconds_numbered : (plan : Gates) (g n : ℕ) → NumberedFrom plan (first_item plan g + plan.parties) (map (item g 1) (listeners plan g n))
-seconds_numbered plan g zero = tt
-seconds_numbered plan g (suc n) =
-    let test : ℕ → Bool = λ p. hears plan p g 0 in
-    let split : listeners plan g (suc n) ≡ listeners plan g n ++ cond (test n) (n ∷ []) [] = filter-append test (each n (λ p. p)) (n ∷ []) in
-    let both : map (item g 1) (listeners plan g (suc n)) ≡ map (item g 1) (listeners plan g n) ++ map (item g 1) (cond (test n) (n ∷ []) []) =
-    ap (map (item g 1)) split ∙ map-append (item g 1) (listeners plan g n) (cond (test n) (n ∷ []) []) in
-    let at : first_item plan g + (plan.parties + length (listeners plan g n)) ≡ first_item plan g + plan.parties + length (map (item g 1) (listeners plan g n)) =
-    omega (arith, length-map (listeners plan g n) (item g 1)) in
-    subst (λ (xs : List Item). NumberedFrom plan (first_item plan g + plan.parties) xs) (sym both)
-    (numbered_append plan (first_item plan g + plan.parties) (map (item g 1) (listeners plan g n)) (map (item g 1) (cond (test n) (n ∷ []) []))
-    (seconds_numbered plan g n)
-    (subst (λ (m : ℕ). NumberedFrom plan m (map (item g 1) (cond (test n) (n ∷ []) []))) at (second_numbered plan g n (test n))))
+abbrev behind_from : Gates → ℕ → ℕ → ℕ
+behind_from plan g n = first_item plan g + plan.parties + length (items_behind plan g n)
+
+waiting_numbered : (plan : Gates) (g round n : ℕ) → round < rounds plan g → NumberedFrom plan (behind_from plan g round) (map (waiting plan g round) (listeners plan g round n))
+waiting_numbered plan g round zero inside = tt
+waiting_numbered plan g round (suc n) inside =
+    let test : ℕ → Bool = λ p. hears plan p g round in
+    let front : List Item = map (waiting plan g round) (listeners plan g round n) in
+    let split : listeners plan g round (suc n) ≡ listeners plan g round n ++ cond (test n) (n ∷ []) [] = filter-append test (each n (λ p. p)) (n ∷ []) in
+    let both : map (waiting plan g round) (listeners plan g round (suc n)) ≡ front ++ map (waiting plan g round) (cond (test n) (n ∷ []) []) =
+    ap (map (waiting plan g round)) split ∙ map-append (waiting plan g round) (listeners plan g round n) (cond (test n) (n ∷ []) []) in
+    subst (λ (xs : List Item). NumberedFrom plan (behind_from plan g round) xs) (sym both)
+    (numbered_append plan (behind_from plan g round) front (map (waiting plan g round) (cond (test n) (n ∷ []) []))
+    (waiting_numbered plan g round n inside) (last (test n) refl))
+  where
+    last : (b : Bool) → hears plan n g round ≡ b → NumberedFrom plan (behind_from plan g round + length (map (waiting plan g round) (listeners plan g round n))) (map (waiting plan g round) (cond b (n ∷ []) []))
+    last true heard = (omega (arith, waiting_number plan g round n inside heard, length-map (listeners plan g round n) (waiting plan g round)), tt)
+    last false heard = tt
+
+behind_numbered : (plan : Gates) (g n : ℕ) → n ≤ rounds plan g → NumberedFrom plan (first_item plan g + plan.parties) (items_behind plan g n)
+behind_numbered plan g zero within = tt
+behind_numbered plan g (suc round) within =
+    numbered_append plan (first_item plan g + plan.parties) (items_behind plan g round) (items_waiting plan g round)
+    (behind_numbered plan g round (omega (arith, within))) (waiting_numbered plan g round plan.parties (omega (arith, within)))
 
 gate_numbered : (plan : Gates) (g : ℕ) → NumberedFrom plan (first_item plan g) (items_of plan g)
 gate_numbered plan g =
     let at : first_item plan g + length (each plan.parties (item g 0)) ≡ first_item plan g + plan.parties = ap (λ (m : ℕ). first_item plan g + m) (length-each plan.parties (item g 0)) in
-    numbered_append plan (first_item plan g) (each plan.parties (item g 0)) (map (item g 1) (listeners plan g plan.parties)) (firsts_numbered plan g plan.parties)
-    (subst (λ (m : ℕ). NumberedFrom plan m (map (item g 1) (listeners plan g plan.parties))) (sym at) (seconds_numbered plan g plan.parties))
+    numbered_append plan (first_item plan g) (each plan.parties (item g 0)) (items_behind plan g (rounds plan g)) (firsts_numbered plan g plan.parties)
+    (subst (λ (m : ℕ). NumberedFrom plan m (items_behind plan g (rounds plan g))) (sym at) (behind_numbered plan g (rounds plan g) (omega arith)))
 
 before_numbered : (plan : Gates) (n : ℕ) → NumberedFrom plan 0 (items_before plan n)
 before_numbered plan zero = tt
@@ -109,12 +122,46 @@ earlier_gate plan i j is less =
     let next = first_later plan (suc i.gate) j.gate (omega (arith, less)) in
     omega (arith, within, next, length-append (items_before plan i.gate) (items_of plan i.gate))
 
--- a first stage comes before a second one of the same gate
-earlier_stage : (plan : Gates) (g : ℕ) (p : Party) (i : Item) → p.0 < plan.parties → i.gate ≡ g → eqb i.stage 0 ≡ false → number_of plan (record { gate = g; stage = 0; party = p }) < number_of plan i
-earlier_stage plan g p i member same second =
-    let here : number_of plan i ≡ first_item plan i.gate + (plan.parties + length (listeners plan i.gate i.party.0)) = rw second refl in
-    let first = ap (first_item plan) same in
-    omega (arith, here, first, member)
+-- the stages that wait for a round before this one stand before those that wait for this one
+behind_later : (plan : Gates) (g m n : ℕ) → m ≤ n → length (items_behind plan g m) ≤ length (items_behind plan g n)
+behind_later plan g m zero less = let none : m ≡ 0 = omega arith in subst (λ (k : ℕ). length (items_behind plan g k) ≤ length (items_behind plan g 0)) (sym none) (omega arith)
+behind_later plan g m (suc n) less =
+    ⊎_elim
+    (λ (same : m ≡ suc n). subst (λ (k : ℕ). length (items_behind plan g k) ≤ length (items_behind plan g (suc n))) (sym same) (omega arith))
+    (λ (other : m ≢ suc n).
+    let before = behind_later plan g m n (omega (arith, less, other)) in
+    omega (arith, before, length-append (items_behind plan g n) (items_waiting plan g n)))
+    (cases_eq m (suc n))
+
+-- the stage in which a party sends a round stands before all that wait for it
+sender_first : (plan : Gates) (g round q : ℕ) → q < plan.parties → (o : Option ℕ) → awaits plan q g (sent_in plan q g round) ≡ o →
+    place_by plan g q o < plan.parties + length (items_behind plan g round)
+sender_first plan g round q member None e = omega (arith, member)
+sender_first plan g round q member (Some before) e =
+    let known = waits plan q g (sent_in plan q g round) before e in
+    let less : before < round = below (cases_lt before round) in
+    let there = slice_get_within (listeners plan g before plan.parties) (length (listeners plan g before q)) q
+    (passing_found (λ p. hears plan p g before) plan.parties q member known.heard) in
+    let next = behind_later plan g (suc before) round (omega (arith, less)) in
+    let split = length-append (items_behind plan g before) (items_waiting plan g before) in
+    let same = length-map (listeners plan g before plan.parties) (waiting plan g before) in
+    omega (arith, there, next, split, same)
+  where
+    below : (before < round) ⊎ (round ≤ before) → before < round
+    below (inl less) = less
+    below (inr more) =
+        let known = waits plan q g (sent_in plan q g round) before e in
+        let few = passing_fewer (hears plan q g) round before more in
+        absurd (omega (arith, known.behind, few))
+
+sender_before : (plan : Gates) (g round q : ℕ) (i : Item) → q < plan.parties → i.gate ≡ g → awaits plan i.party.0 i.gate i.stage ≡ Some round →
+    number_of plan (item g (sent_in plan q g round) q) < number_of plan i
+sender_before plan g round q i member same waiting_for =
+    let first = sender_first plan g round q member (awaits plan q g (sent_in plan q g round)) refl in
+    let here : number_of plan i ≡ first_item plan i.gate + place_by plan i.gate i.party.0 (Some round) = ap (λ (o : Option ℕ). first_item plan i.gate + place_by plan i.gate i.party.0 o) waiting_for in
+    let there : first_item plan i.gate + place_by plan i.gate i.party.0 (Some round) ≡ first_item plan g + place_by plan g i.party.0 (Some round) =
+    ap (λ (k : ℕ). first_item plan k + place_by plan k i.party.0 (Some round)) same in
+    omega (arith, first, here, there)
 
 abbrev ComesFirst : Gates → Item → Load → Type 0
 ComesFirst plan i load = number_of plan (giver plan load) < number_of plan i
@@ -125,19 +172,19 @@ wires_first plan i plan_is is =
     (λ x less. earlier_gate plan (giver plan (Wire x i.party)) i (wire_given plan x i.party (omega (arith, less, is.gate)) is.party) less)
     (operands_at plan.gates i.gate) (operands_are_before plan i.gate plan_is)
 
-heard_first : (plan : Gates) (i : Item) (b : Bool) → eqb i.stage 0 ≡ b → IsItem plan i → AllByRecursion (ComesFirst plan i) (cond b [] (heard_by plan i.gate i.party))
-heard_first plan i true stage is = tt
-heard_first plan i false stage is = (
-  earlier_stage plan i.gate i.party i is.party refl stage,
-  all_map (ComesFirst plan i) (λ from. Message i.gate (party from) i.party) (Passes (λ from. is_some (message plan from i.party.0 i.gate 0)) plan.parties)
-      (λ from passes. earlier_stage plan i.gate (party from) i passes.below refl stage)
-      (senders plan i.party.0 i.gate 0) (all_passing (λ from. is_some (message plan from i.party.0 i.gate 0)) plan.parties),
+waited_first : (plan : Gates) (i : Item) (o : Option ℕ) → awaits plan i.party.0 i.gate i.stage ≡ o → IsItem plan i → AllByRecursion (ComesFirst plan i) (waited_for plan i.gate i.party o)
+waited_first plan i None e is = tt
+waited_first plan i (Some round) e is = (
+  sender_before plan i.gate round i.party.0 i is.party refl e,
+  all_map (ComesFirst plan i) (λ from. Message i.gate round (party from) i.party) (Passes (λ from. is_some (message plan from i.party.0 i.gate round)) plan.parties)
+      (λ from passes. sender_before plan i.gate round from i passes.below refl e)
+      (senders plan i.party.0 i.gate round) (all_passing (λ from. is_some (message plan from i.party.0 i.gate round)) plan.parties),
 )
 
 loads_first : (plan : Gates) (i : Item) → IsPlan plan → IsItem plan i → AllByRecursion (ComesFirst plan i) (loads_to plan i)
 loads_first plan i plan_is is =
-    all_append (ComesFirst plan i) (wires_to plan i.gate i.party) (cond (eqb i.stage 0) [] (heard_by plan i.gate i.party))
-    (wires_first plan i plan_is is) (heard_first plan i (eqb i.stage 0) refl is)
+    all_append (ComesFirst plan i) (wires_to plan i.gate i.party) (waited_for plan i.gate i.party (awaits plan i.party.0 i.gate i.stage))
+    (wires_first plan i plan_is is) (waited_first plan i (awaits plan i.party.0 i.gate i.stage) refl is)
 
 -- ---- the tests of a graph
 

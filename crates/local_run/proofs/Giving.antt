@@ -44,17 +44,17 @@ outputs_more given loads edges k old new d c all within are is more =
     let two = subst (λ (es : List ℕ). AreMeanings means es (old ++ c ∷ [])) (sym (take_more edges k 0 within)) one in
     subst (λ (vs : List Cargo). AreMeanings means (take (k + 1) edges) vs) (sym more) two
 
-sends-none : (to : Party) (payload : Payload) → Sends [] to payload → ⊥
-sends-none to payload (i, o, is, same) = none-some o is.there
+sends-none : (round : ℕ) (to : Party) (payload : Payload) → Sends [] round to payload → ⊥
+sends-none round to payload (i, o, is, same) = none-some o is.there
 
 -- where a stage gave its value alone, an edge carries that
 alone : (given : StageOut) (v : Value) (load : Option Load) → given.value ≡ Some v → given.carried ≡ None → given.out ≡ [] → HasCargoAt given load → IsCargoAt given load (cargo.Value v)
 alone given v None value carried out has = absurd has
 alone given v (Some (Wire g p)) value carried out has = value
-alone given v (Some (Kept g p)) value carried out has = absurd (false≢true (subst (λ o. IsSome o) carried has))
-alone given v (Some (Message g from to)) value carried out has =
-    let to_none : Sends [] to has.0 = subst (λ (os : List Out). Sends os to has.0) out has.1 in
-    absurd (sends-none to has.0 to_none)
+alone given v (Some (Kept g round p)) value carried out has = absurd (false≢true (subst (λ o. IsSome o) carried has))
+alone given v (Some (Message g round from to)) value carried out has =
+    let to_none : Sends [] round to has.0 = subst (λ (os : List Out). Sends os round to has.0) out has.1 in
+    absurd (sends-none round to has.0 to_none)
 
 -- and all edges carry it
 pub all_alone : (given : StageOut) (v : Value) (loads : List Load) (edges : List ℕ) → given.value ≡ Some v → given.carried ≡ None → given.out ≡ [] → AllByRecursion (λ e. HasCargoAt given (slice_get loads e)) edges → AreMeanings (λ e c. IsCargoAt given (slice_get loads e) c) edges (replicate (length edges) (cargo.Value v))

@@ -1,8 +1,7 @@
 -- The edges that start at an item carry what its stage gives.
-use Rattle.std.proofs.Common.{◌≡◌, ℕ, zero, suc, ◌<◌, Bool, true, false, cond, eqb, List, [], ◌∷◌, length, map, get_or, Option, Some, None, refl, sym, ap, ◌∙◌, subst, arith, ⊎_elim}
+use Rattle.std.proofs.Common.{◌≡◌, ℕ, zero, suc, ◌<◌, List, [], ◌∷◌, length, map, get_or, Option, Some, None, refl, sym, ap, ◌∙◌, subst, arith}
 use Rattle.std.specs.Prelude.{slice_get, is_some}
 use Rattle.std.specs.List.{AllByRecursion}
-use Rattle.std.proofs.lemmas.Bool.{eq-eqb, true≢false}
 use Rattle.std.proofs.lemmas.List.{length-map, get_or-map}
 use Rattle.mot_base.specs.declared.Party.{Party}
 use Rattle.turn_core.specs.declared.edge.TheConstants.{OUTSIDE}
@@ -10,7 +9,8 @@ use Rattle.turn_core.specs.Graph.{source, outgoing}
 use Rattle.turn_core.proofs.Listed.{edges_listed}
 use Rattle.task_pool.specs.Meanings.{AreMeanings, HasNoOutside}
 use Rattle.plan_gates.specs.Plan.{Gates, IsPlan}
-use Rattle.plan_gates.specs.Messages.{hears, message}
+use Rattle.plan_gates.specs.Messages.{rounds, awaits, message}
+use Rattle.plan_gates.proofs.MessageLemmas.{waits}
 use Rattle.gate_tasks.specs.declared.stage.StageOut.{StageOut}
 use Rattle.joint_run.specs.Party.{Own}
 use Rattle.gate_tasks.specs.Stage.{operands_at, senders, receivers}
@@ -21,10 +21,11 @@ use Rattle.local_run.specs.declared.item.Load.{Load}
 use Rattle.local_run.specs.declared.item.Load.TheVariants.{Wire, Kept, Message}
 use Rattle.local_run.specs.declared.cargo.Cargo.{Cargo}
 use Rattle.local_run.specs.Items.{all_items, number_of, IsItem}
-use Rattle.local_run.specs.Loads.{party, wires_to, heard_by, loads_to, loads_at, told_gates, sent_at, sent_before, report_loads, reports_loads, loads_before, all_loads, all_edges, giver, IsGiven, graph_of}
+use Rattle.local_run.specs.Loads.{party, wires_to, waited_for, loads_to, loads_at, sent_round, sent_at, sent_before, report_loads, reports_loads, loads_before, all_loads, all_edges, giver, IsGiven, graph_of}
 use Rattle.local_run.specs.Meaning.{IsMeantAt, edge_means, HasCargoAt, IsCargoAt, HasRun}
 use Rattle.local_run.proofs.Numbers.{item_found, number_within, few_items}
-use Rattle.local_run.proofs.Valid.{all_map, all_passing, Passes, item_is, loads_given, reports_given}
+use Rattle.gate_tasks.specs.Report.{told_to}
+use Rattle.local_run.proofs.Valid.{all_map, all_flat_each, all_passing, Passes, item_is, loads_given, reports_given}
 use Rattle.local_run.proofs.Sending.{IsReal, all_trivial, has_cargo, is_meant}
 use Rattle.local_run.proofs.Ranges.{all_sources}
 use Rattle.mot_base.proofs.Lists.{same_some as some_is, all_append, all_implied as all_more, all_at}
@@ -34,30 +35,28 @@ use Rattle.mot_base.proofs.Lists.{same_some as some_is, all_append, all_implied 
 wires_real : (plan : Gates) (p : Party) (xs : List ℕ) → AllByRecursion (IsReal plan) (map (λ x. Wire x p) xs)
 wires_real plan p xs = all_map (IsReal plan) (λ x. Wire x p) (λ _. Unit {0}) (λ x _. tt) xs (all_trivial xs)
 
-heard_real : (plan : Gates) (g : ℕ) (p : Party) → p.0 < plan.parties → hears plan p.0 g 0 ≡ true → AllByRecursion (IsReal plan) (heard_by plan g p)
-heard_real plan g p member heard = (
-  heard,
-  all_map (IsReal plan) (λ from. Message g (party from) p) (Passes (λ from. is_some (message plan from p.0 g 0)) plan.parties)
-      (λ from is. (member, is.passes)) (senders plan p.0 g 0) (all_passing (λ from. is_some (message plan from p.0 g 0)) plan.parties),
-)
-
-stage_real : (plan : Gates) (i : Item) (b : Bool) → eqb i.stage 0 ≡ b → IsItem plan i → AllByRecursion (IsReal plan) (cond b [] (heard_by plan i.gate i.party))
-stage_real plan i true stage is = tt
-stage_real plan i false stage is =
-    ⊎_elim
-    (λ (first : i.stage ≡ 0). absurd (true≢false (sym (eq-eqb i.stage 0 first) ∙ stage)))
-    (λ (second : (i.stage ≡ 1) × (hears plan i.party.0 i.gate 0 ≡ true)). heard_real plan i.gate i.party is.party second.1)
-    is.stage
+waited_real : (plan : Gates) (g : ℕ) (p : Party) (stage : ℕ) (o : Option ℕ) → p.0 < plan.parties → awaits plan p.0 g stage ≡ o → AllByRecursion (IsReal plan) (waited_for plan g p o)
+waited_real plan g p stage None member e = tt
+waited_real plan g p stage (Some round) member e =
+    let known = waits plan p.0 g stage round e in (
+      (known.inside, known.heard),
+      all_map (IsReal plan) (λ from. Message g round (party from) p) (Passes (λ from. is_some (message plan from p.0 g round)) plan.parties)
+          (λ from is. (member, is.passes)) (senders plan p.0 g round) (all_passing (λ from. is_some (message plan from p.0 g round)) plan.parties),
+    )
 
 loads_real : (plan : Gates) (i : Item) → IsItem plan i → AllByRecursion (IsReal plan) (loads_to plan i)
 loads_real plan i is =
-    all_append (IsReal plan) (wires_to plan i.gate i.party) (cond (eqb i.stage 0) [] (heard_by plan i.gate i.party))
-    (wires_real plan i.party (operands_at plan.gates i.gate)) (stage_real plan i (eqb i.stage 0) refl is)
+    all_append (IsReal plan) (wires_to plan i.gate i.party) (waited_for plan i.gate i.party (awaits plan i.party.0 i.gate i.stage))
+    (wires_real plan i.party (operands_at plan.gates i.gate))
+    (waited_real plan i.gate i.party i.stage (awaits plan i.party.0 i.gate i.stage) is.party refl)
+
+sent_round_real : (plan : Gates) (p : Party) (g round : ℕ) → AllByRecursion (IsReal plan) (sent_round plan p g round)
+sent_round_real plan p g round =
+    all_map (IsReal plan) (λ to. Message g round p (party to)) (Passes (λ to. is_some (message plan p.0 to g round)) plan.parties)
+    (λ to is. (is.below, is.passes)) (receivers plan p.0 g round) (all_passing (λ to. is_some (message plan p.0 to g round)) plan.parties)
 
 sent_at_real : (plan : Gates) (p : Party) (g : ℕ) → AllByRecursion (IsReal plan) (sent_at plan p g)
-sent_at_real plan p g =
-    all_map (IsReal plan) (λ to. Message g p (party to)) (Passes (λ to. is_some (message plan p.0 to g 0)) plan.parties)
-    (λ to is. (is.below, is.passes)) (receivers plan p.0 g 0) (all_passing (λ to. is_some (message plan p.0 to g 0)) plan.parties)
+sent_at_real plan p g = all_flat_each (IsReal plan) (rounds plan g) (sent_round plan p g) (λ round inside. sent_round_real plan p g round)
 
 pub sent_real : (plan : Gates) (p : Party) (n : ℕ) → AllByRecursion (IsReal plan) (sent_before plan p n)
 sent_real plan p zero = tt
@@ -67,8 +66,8 @@ reports_real : (plan : Gates) (n : ℕ) → AllByRecursion (IsReal plan) (report
 reports_real plan zero = tt
 reports_real plan (suc n) =
     all_append (IsReal plan) (reports_loads plan n) (report_loads plan (party n)) (reports_real plan n)
-    (all_append (IsReal plan) (map (λ g. Wire g (party n)) (told_gates plan n (length plan.gates))) (sent_before plan (party n) (length plan.gates))
-    (wires_real plan (party n) (told_gates plan n (length plan.gates))) (sent_real plan (party n) (length plan.gates)))
+    (all_append (IsReal plan) (map (λ g. Wire g (party n)) (told_to plan n)) (sent_before plan (party n) (length plan.gates))
+    (wires_real plan (party n) (told_to plan n)) (sent_real plan (party n) (length plan.gates)))
 
 -- both of what an edge carries
 record IsSound (plan : Gates) (load : Load) : Type 0 where
@@ -107,7 +106,7 @@ record ComesFrom (plan : Gates) (i : Item) (e : ℕ) : Type 0 where
   same : giver plan load ≡ i
 
 zero_load : Load
-zero_load = Kept 0 (record { 0 = 0 })
+zero_load = Kept 0 0 (record { 0 = 0 })
 
 comes_from : (plan : Gates) (k e : ℕ) (i : Item) → IsPlan plan → slice_get (all_items plan) k ≡ Some i → e < length (all_edges plan) → source (graph_of plan) e ≡ k → ComesFrom plan i e
 comes_from plan k e i is there within from =
@@ -133,14 +132,14 @@ module _ (plan : Gates) (owns : List Own) (count : length owns ≡ plan.parties)
   has_at e within from =
       let c = comes_from plan k e i is there within from in
       let joint = one_joint_run plan owns in
-      let here = has_cargo plan owns count joint.0 c.load given joint.1 c.given c.real (subst (λ (j : Item). HasRun plan owns j given) (sym c.same) run) in
+      let here = has_cargo plan owns is count joint.0 c.load given joint.1 c.given c.real (subst (λ (j : Item). HasRun plan owns j given) (sym c.same) run) in
       subst (λ o. HasCargoAt given o) (sym c.there) here
 
   means_at : (e : ℕ) (v : Cargo) → e < length (all_edges plan) → source (graph_of plan) e ≡ k → IsCargoAt given (slice_get (all_loads plan) e) v → edge_means plan owns e v
   means_at e v within from cargo =
       let c = comes_from plan k e i is there within from in
       let joint = one_joint_run plan owns in
-      let here = is_meant plan owns count joint.0 c.load v given joint.1 c.given c.real (subst (λ (j : Item). HasRun plan owns j given) (sym c.same) run) (subst (λ o. IsCargoAt given o v) c.there cargo) in
+      let here = is_meant plan owns is count joint.0 c.load v given joint.1 c.given c.real (subst (λ (j : Item). HasRun plan owns j given) (sym c.same) run) (subst (λ o. IsCargoAt given o v) c.there cargo) in
       subst (λ o. IsMeantAt plan owns o v) (sym c.there) here
 
   abbrev Leaves : ℕ → Type 0

@@ -10,7 +10,6 @@ pub mod Ranges
 pub mod Staging
 pub mod Sending
 pub mod Leaving
-pub mod Shaping
 pub mod Serving
 pub mod Turns
 pub mod Lines
@@ -18,3 +17,4 @@ pub mod Plainly
 pub mod Told
 pub mod Seeding
 pub mod Turning
+pub mod Bounds

@@ -7,6 +7,7 @@ use Rattle.std.proofs.lemmas.Bool.{cases_eq, false≢true}
 use Rattle.std.proofs.lemmas.Grind.{flat_map-append}
 use Rattle.std.proofs.lemmas.List.{append_assoc, append-nil, length-append, drop-drop, length-drop}
 use Rattle.mot_base.specs.declared.Party.{Party}
+use Rattle.share_types.specs.Sums.{each}
 use Rattle.share_types.specs.declared.bits.Bits.{Bits}
 use Rattle.frames.specs.declared.frame.Frame.{Frame}
 use Rattle.frames.specs.declared.frame.Frame.TheVariants as frame
@@ -15,7 +16,7 @@ use Rattle.frames.specs.Bytes.{IsSendable, canonical, joined}
 use Rattle.plan_gates.specs.Gate.{Kind, Gate, OutA, OutB, width_at}
 use Rattle.plan_gates.specs.declared.message.Message.{Message as Sent}
 use Rattle.plan_gates.specs.Plan.{Gates, IsPlan}
-use Rattle.plan_gates.specs.Messages.{message, tells}
+use Rattle.plan_gates.specs.Messages.{rounds, message, tells}
 use Rattle.plan_gates.proofs.SlotLemmas.{message_fits}
 use Rattle.gate_tasks.specs.declared.value.Value.{Value as ValueInMemory}
 use Rattle.gate_tasks.specs.declared.value.Value.TheVariants as value
@@ -26,18 +27,19 @@ use Rattle.joint_run.specs.Honest.{own_at}
 use Rattle.gate_tasks.specs.Stage.{value_of, receivers, IsOf, HasShape}
 use Rattle.local_run.specs.declared.item.Load.{Load}
 use Rattle.local_run.specs.declared.item.Load.TheVariants.{Wire, Kept, Message}
-use Rattle.local_run.specs.declared.report.PartyReport.{PartyReport}
+use Rattle.gate_tasks.specs.declared.report.PartyReport.{PartyReport}
+use Rattle.gate_tasks.specs.Report.{tells_at, told_to, round_frames, gate_frames, frames_before, transcript}
 use Rattle.local_run.specs.declared.cargo.Cargo.{Cargo}
 use Rattle.local_run.specs.declared.cargo.Cargo.TheVariants as cargo
 use Rattle.local_run.specs.Loads as loads
-use Rattle.local_run.specs.Loads.{tells_at, sent_at, sent_before, report_loads, reports_loads}
+use Rattle.local_run.specs.Loads.{sent_round, sent_at, sent_before, report_loads, reports_loads}
 use Rattle.local_run.specs.Meaning.{IsFit, IsMeant, ArePairs, AreMeant, AreFit}
-use Rattle.local_run.specs.Report.{frames_before, transcript, told_to, bits_told, frame_of, frames_of, IsReport}
+use Rattle.local_run.specs.Report.{sent_of, bits_told, frame_of, frames_of, IsReport}
 use Rattle.std.proofs.lemmas.List.Elements.{All-from_recursion}
 use Rattle.local_run.proofs.Valid.{Passes, all_passing}
 use Rattle.local_run.proofs.Leaving.{sent_real}
 use Rattle.local_run.proofs.Sending.{IsReal}
-use Rattle.mot_base.proofs.Lists.{same_some as some_is, all_implied as all_more, each_pushed as pushed}
+use Rattle.mot_base.proofs.Lists.{all_implied as all_more, each_pushed as pushed}
 
 -- ---- pairs
 
@@ -185,35 +187,45 @@ told_of plan owns table p (g ∷ gs) (cargo.Value v ∷ cs) joint told are =
 -- ---- what is sent
 
 abbrev framed : Payloads → Load → List Frame
-framed table (Message g from to) = frame.Message g 0 (table g 0 from.0 to.0) ∷ []
+framed table (Message g round from to) = frame.Message g round (table g round from.0 to.0) ∷ []
 framed table _ = []
 
 frames_are : (plan : Gates) (owns : List Own) (table : Payloads) (ls : List Load) (cs : List Cargo) → IsJoint plan owns table → ArePairs (IsMeant plan owns) ls cs → frames_of ls cs ≡ flat_map (framed table) ls
 frames_are plan owns table [] [] joint are = refl
 frames_are plan owns table [] (c ∷ cs) joint are = absurd are
 frames_are plan owns table (l ∷ ls) [] joint are = absurd are
-frames_are plan owns table (Message g from to ∷ ls) (cargo.Message payload ∷ cs) joint are =
-    ap₂ (λ (x : List ℕ) (xs : List Frame). frame.Message g 0 x ∷ xs) (are.0.1 table joint) (frames_are plan owns table ls cs joint are.1)
-frames_are plan owns table (Message g from to ∷ ls) (cargo.Value v ∷ cs) joint are = absurd are.0.0
-frames_are plan owns table (Message g from to ∷ ls) (cargo.Kept k ∷ cs) joint are = absurd are.0.0
+frames_are plan owns table (Message g round from to ∷ ls) (cargo.Message payload ∷ cs) joint are =
+    ap₂ (λ (x : List ℕ) (xs : List Frame). frame.Message g round x ∷ xs) (are.0.1 table joint) (frames_are plan owns table ls cs joint are.1)
+frames_are plan owns table (Message g round from to ∷ ls) (cargo.Value v ∷ cs) joint are = absurd are.0.0
+frames_are plan owns table (Message g round from to ∷ ls) (cargo.Kept k ∷ cs) joint are = absurd are.0.0
 frames_are plan owns table (Wire g p ∷ ls) (cargo.Value v ∷ cs) joint are = frames_are plan owns table ls cs joint are.1
 frames_are plan owns table (Wire g p ∷ ls) (cargo.Kept k ∷ cs) joint are = absurd are.0.0
 frames_are plan owns table (Wire g p ∷ ls) (cargo.Message payload ∷ cs) joint are = absurd are.0.0
-frames_are plan owns table (Kept g p ∷ ls) (cargo.Kept k ∷ cs) joint are = frames_are plan owns table ls cs joint are.1
-frames_are plan owns table (Kept g p ∷ ls) (cargo.Value v ∷ cs) joint are = absurd are.0.0
-frames_are plan owns table (Kept g p ∷ ls) (cargo.Message payload ∷ cs) joint are = absurd are.0.0
+frames_are plan owns table (Kept g round p ∷ ls) (cargo.Kept k ∷ cs) joint are = frames_are plan owns table ls cs joint are.1
+frames_are plan owns table (Kept g round p ∷ ls) (cargo.Value v ∷ cs) joint are = absurd are.0.0
+frames_are plan owns table (Kept g round p ∷ ls) (cargo.Message payload ∷ cs) joint are = absurd are.0.0
 
-framed_at : (table : Payloads) (g : ℕ) (p : Party) (tos : List ℕ) → flat_map (framed table) (map (λ to. Message g p (loads.party to)) tos) ≡ map (λ to. frame.Message g 0 (table g 0 p.0 to)) tos
-framed_at table g p [] = refl
-framed_at table g p (to ∷ tos) = ap (λ (fs : List Frame). frame.Message g 0 (table g 0 p.0 to) ∷ fs) (framed_at table g p tos)
+framed_in : (table : Payloads) (g round : ℕ) (p : Party) (tos : List ℕ) → flat_map (framed table) (map (λ to. Message g round p (loads.party to)) tos) ≡ map (λ to. frame.Message g round (table g round p.0 to)) tos
+framed_in table g round p [] = refl
+framed_in table g round p (to ∷ tos) = ap (λ (fs : List Frame). frame.Message g round (table g round p.0 to) ∷ fs) (framed_in table g round p tos)
 
-framed_before : (table : Payloads) (plan : Gates) (p n : ℕ) → flat_map (framed table) (sent_before plan (loads.party p) n) ≡ frames_before table plan p n
+-- what is made of each part is made of all of them
+flat_flat : {X Y Z : Type 0} (f : Y → List Z) (g : X → List Y) (h : X → List Z) → ((x : X) → flat_map f (g x) ≡ h x) → (xs : List X) → flat_map f (flat_map g xs) ≡ flat_map h xs
+flat_flat f g h same [] = refl
+flat_flat f g h same (x ∷ xs) = flat_map-append f (g x) (flat_map g xs) ∙ ap₂ (λ ys zs. ys ++ zs) (same x) (flat_flat f g h same xs)
+
+framed_at : (table : Payloads) (plan : Gates) (p g : ℕ) → flat_map (framed table) (sent_at plan (loads.party p) g) ≡ gate_frames plan p (sent_of table p) g
+framed_at table plan p g =
+    flat_flat (framed table) (sent_round plan (loads.party p) g) (round_frames plan p (sent_of table p) g)
+    (λ round. framed_in table g round (loads.party p) (receivers plan p g round)) (each (rounds plan g) (λ round. round))
+
+framed_before : (table : Payloads) (plan : Gates) (p n : ℕ) → flat_map (framed table) (sent_before plan (loads.party p) n) ≡ frames_before plan p (sent_of table p) n
 framed_before table plan p zero = refl
 framed_before table plan p (suc n) =
     flat_map-append (framed table) (sent_before plan (loads.party p) n) (sent_at plan (loads.party p) n)
-    ∙ ap₂ (λ (xs ys : List Frame). xs ++ ys) (framed_before table plan p n) (framed_at table n (loads.party p) (receivers plan p n 0))
+    ∙ ap₂ (λ (xs ys : List Frame). xs ++ ys) (framed_before table plan p n) (framed_at table plan p n)
 
-pub transcript_is : (plan : Gates) (owns : List Own) (table : Payloads) (p : ℕ) (cs : List Cargo) → IsJoint plan owns table → ArePairs (IsMeant plan owns) (sent_loads plan p) cs → frames_of (sent_loads plan p) cs ≡ transcript table plan p
+pub transcript_is : (plan : Gates) (owns : List Own) (table : Payloads) (p : ℕ) (cs : List Cargo) → IsJoint plan owns table → ArePairs (IsMeant plan owns) (sent_loads plan p) cs → frames_of (sent_loads plan p) cs ≡ transcript plan p (sent_of table p)
 transcript_is plan owns table p cs joint are = frames_are plan owns table (sent_loads plan p) cs joint are ∙ framed_before table plan p (length plan.gates)
 
 pub told_is : (plan : Gates) (owns : List Own) (table : Payloads) (p : ℕ) (cs : List Cargo) → IsJoint plan owns table → ArePairs (IsMeant plan owns) (told_loads plan p) cs → IsToldOf plan owns table p (told_to plan p) cs
@@ -224,22 +236,22 @@ told_is plan owns table p cs joint are =
 
 -- ---- each may be sent
 
-payload_fits : (plan : Gates) (g from to : ℕ) (payload : Payload) (o : Option Sent) → IsPlan plan → message plan from to g 0 ≡ o → is_some o ≡ true → IfSome o (λ m. HasShape m payload) → IsSendable (frame.Message g 0 payload)
-payload_fits plan g from to payload None is there some shape = absurd (false≢true some)
-payload_fits plan g from to payload (Some m) is there some shape =
-    let fits = message_fits plan is from to g 0 m there in
+payload_fits : (plan : Gates) (g round from to : ℕ) (payload : Payload) (o : Option Sent) → IsPlan plan → message plan from to g round ≡ o → is_some o ≡ true → IfSome o (λ m. HasShape m payload) → IsSendable (frame.Message g round payload)
+payload_fits plan g round from to payload None is there some shape = absurd (false≢true some)
+payload_fits plan g round from to payload (Some m) is there some shape =
+    let fits = message_fits plan is from to g round m there in
     (omega (arith, shape.0, fits.some), omega (arith, shape.0, fits.most))
 
 frames_sendable : (plan : Gates) (ls : List Load) (cs : List Cargo) → IsPlan plan → AllByRecursion (IsReal plan) ls → ArePairs (IsFit plan) ls cs → AllByRecursion IsSendable (frames_of ls cs)
 frames_sendable plan [] [] is real are = tt
 frames_sendable plan [] (c ∷ cs) is real are = absurd are
 frames_sendable plan (l ∷ ls) [] is real are = absurd are
-frames_sendable plan (Message g from to ∷ ls) (cargo.Message payload ∷ cs) is real are =
-    (payload_fits plan g from.0 to.0 payload (message plan from.0 to.0 g 0) is refl real.0.1 are.0, frames_sendable plan ls cs is real.1 are.1)
-frames_sendable plan (Message g from to ∷ ls) (cargo.Value v ∷ cs) is real are = absurd are.0
-frames_sendable plan (Message g from to ∷ ls) (cargo.Kept k ∷ cs) is real are = absurd are.0
+frames_sendable plan (Message g round from to ∷ ls) (cargo.Message payload ∷ cs) is real are =
+    (payload_fits plan g round from.0 to.0 payload (message plan from.0 to.0 g round) is refl real.0.1 are.0, frames_sendable plan ls cs is real.1 are.1)
+frames_sendable plan (Message g round from to ∷ ls) (cargo.Value v ∷ cs) is real are = absurd are.0
+frames_sendable plan (Message g round from to ∷ ls) (cargo.Kept k ∷ cs) is real are = absurd are.0
 frames_sendable plan (Wire g p ∷ ls) (c ∷ cs) is real are = frames_sendable plan ls cs is real.1 are.1
-frames_sendable plan (Kept g p ∷ ls) (c ∷ cs) is real are = frames_sendable plan ls cs is real.1 are.1
+frames_sendable plan (Kept g round p ∷ ls) (c ∷ cs) is real are = frames_sendable plan ls cs is real.1 are.1
 
 pub all_sendable : (plan : Gates) (p : ℕ) (cs : List Cargo) → IsPlan plan → ArePairs (IsFit plan) (sent_loads plan p) cs → All IsSendable (frames_of (sent_loads plan p) cs)
 all_sendable plan p cs is are =

@@ -1,69 +1,108 @@
 -- Items stand at their numbers.
-use Rattle.std.proofs.Common.{◌≡◌, ◌≢◌, ℕ, zero, suc, ◌+◌, ◌*◌, ◌<◌, ◌≤◌, ◌^◌, Bool, true, false, cond, eqb, List, [], ◌∷◌, length, get_or, map, Some, sym, ap, ◌∙◌, subst, arith, ⊎_elim}
-use Rattle.std.specs.Prelude.{slice_get, option_map}
-use Rattle.std.proofs.lemmas.Bool.{cases_eq, eq-eqb, ne_eqb}
+use Rattle.std.proofs.Common.{◌≡◌, ◌≢◌, ℕ, zero, suc, ◌+◌, ◌*◌, ◌<◌, ◌≤◌, ◌^◌, true, List, length, get_or, Option, Some, None, refl, sym, ap, ◌∙◌, subst, arith, ⊎_elim, suc-mul}
+use Rattle.std.specs.Prelude.{slice_get}
+use Rattle.std.proofs.lemmas.Bool.{cases_eq}
 use Rattle.std.proofs.lemmas.List.{length-append, length-map}
 use Rattle.std.proofs.lemmas.Option.{slice_get_within}
-use Rattle.std.proofs.Math.Nat.{mul-le-mul_left}
+use Rattle.std.proofs.Math.Nat.{mul-le-mul_left, mul-le-mul_right}
 use Rattle.share_types.specs.Sums.{each}
 use Rattle.share_types.proofs.Parties.{length-each}
 use Rattle.plan_gates.specs.Plan.{Gates, IsPlan}
-use Rattle.plan_gates.specs.Messages.{hears, stages}
-use Rattle.plan_gates.proofs.MessageLemmas.{heard_is}
+use Rattle.plan_gates.specs.Messages.{hears, rounds, heard_rounds, stages, awaits, sent_in}
+use Rattle.plan_gates.proofs.MessageLemmas.{rounds_are_few, waits}
 use Rattle.plan_gates.proofs.NeedsLemmas.{slice_get-each}
-use Rattle.joint_run.proofs.Grown.{got}
+use Rattle.joint_run.proofs.Grown.{got, there_is}
 use Rattle.local_run.specs.declared.item.Item.{Item}
-use Rattle.local_run.specs.Items.{item, listeners, items_of, items_before, first_item, all_items, number_of, IsItem}
+use Rattle.local_run.specs.Items.{item, listeners, waiting, items_waiting, items_behind, items_of, items_before, first_item, all_items, place_by, place_of, number_of, IsItem}
 use Rattle.local_run.proofs.Lists.{at_left, at_right, passing_few, passing_found}
 use Rattle.mot_base.proofs.Lists.{mapped_at as mapped}
 
 -- ---- how many items there are
 
-pub few_of_gate : (plan : Gates) (g : ℕ) → length (items_of plan g) ≤ plan.parties + plan.parties
-few_of_gate plan g =
-    let split = length-append (each plan.parties (item g 0)) (map (item g 1) (listeners plan g plan.parties)) in
-    let first = length-each plan.parties (item g 0) in
-    let second = length-map (listeners plan g plan.parties) (item g 1) in
-    let few = passing_few (λ p. hears plan p g 0) plan.parties in
-    omega (arith, split, first, second, few)
+behind_few : (plan : Gates) (g n : ℕ) → length (items_behind plan g n) ≤ n * plan.parties
+behind_few plan g zero = omega arith
+behind_few plan g (suc round) =
+    let split = length-append (items_behind plan g round) (items_waiting plan g round) in
+    let same = length-map (listeners plan g round plan.parties) (waiting plan g round) in
+    let few = passing_few (λ p. hears plan p g round) plan.parties in
+    omega (arith, split, same, few, behind_few plan g round, suc-mul round plan.parties)
 
-pub few_before : (plan : Gates) (g : ℕ) → length (items_before plan g) ≤ g * (plan.parties + plan.parties)
+few_of_gate : (plan : Gates) (g : ℕ) → length (items_of plan g) ≤ 4 * plan.parties
+few_of_gate plan g =
+    let split = length-append (each plan.parties (item g 0)) (items_behind plan g (rounds plan g)) in
+    let first = length-each plan.parties (item g 0) in
+    let more = mul-le-mul_right plan.parties (rounds_are_few plan g) in
+    omega (arith, split, first, behind_few plan g (rounds plan g), more)
+
+few_before : (plan : Gates) (g : ℕ) → length (items_before plan g) ≤ g * (4 * plan.parties)
 few_before plan zero = omega arith
 few_before plan (suc g) =
     let split = length-append (items_before plan g) (items_of plan g) in
-    omega (arith, split, few_before plan g, few_of_gate plan g)
+    omega (arith, split, few_before plan g, few_of_gate plan g, suc-mul g (4 * plan.parties))
+
+-- all numbers are small
+pub few_items : (plan : Gates) (g : ℕ) → IsPlan plan → g ≤ length plan.gates → length (items_before plan g) ≤ 2 ^ 27
+few_items plan g is within =
+    let few = few_before plan g in
+    let wide : 4 * plan.parties ≤ 32 = omega (arith, is.most_parties) in
+    let more : g * (4 * plan.parties) ≤ g * 32 = mul-le-mul_left g wide in
+    omega (arith, few, more, within, is.few)
+
+-- those of a gate are few, too
+pub few_behind : (plan : Gates) (g round : ℕ) → IsPlan plan → round ≤ 3 → length (items_behind plan g round) ≤ 24
+few_behind plan g round is few =
+    let least = behind_few plan g round in
+    let more = mul-le-mul_right plan.parties few in
+    omega (arith, least, more, is.most_parties)
 
 -- ---- an item is found
 
 first_found : (plan : Gates) (g p : ℕ) → p < plan.parties → slice_get (items_of plan g) p ≡ Some (item g 0 p)
 first_found plan g p known =
-    at_left (each plan.parties (item g 0)) (map (item g 1) (listeners plan g plan.parties)) p (item g 0 p) (slice_get-each plan.parties (item g 0) p known)
+    at_left (each plan.parties (item g 0)) (items_behind plan g (rounds plan g)) p (item g 0 p) (slice_get-each plan.parties (item g 0) p known)
 
-second_found : (plan : Gates) (g p : ℕ) → p < plan.parties → hears plan p g 0 ≡ true →
-    slice_get (items_of plan g) (plan.parties + length (listeners plan g p)) ≡ Some (item g 1 p)
-second_found plan g p known receives =
-    let there = passing_found (λ q. hears plan q g 0) plan.parties p known receives in
-    let found = at_right (each plan.parties (item g 0)) (map (item g 1) (listeners plan g plan.parties)) (length (listeners plan g p)) (item g 1 p)
-    (mapped (item g 1) (listeners plan g plan.parties) _ p there) in
-    let at : length (each plan.parties (item g 0)) + length (listeners plan g p) ≡ plan.parties + length (listeners plan g p) =
-    ap (λ (n : ℕ). n + length (listeners plan g p)) (length-each plan.parties (item g 0)) in
-    subst (λ (k : ℕ). slice_get (items_of plan g) k ≡ Some (item g 1 p)) at found
+behind_found : (plan : Gates) (g n round p : ℕ) → round < n → p < plan.parties → hears plan p g round ≡ true →
+    slice_get (items_behind plan g n) (length (items_behind plan g round) + length (listeners plan g round p)) ≡ Some (waiting plan g round p)
+behind_found plan g zero round p less known receives = absurd (omega (arith, less))
+behind_found plan g (suc n) round p less known receives =
+    ⊎_elim
+    (λ (same : round ≡ n).
+    let there = passing_found (λ q. hears plan q g round) plan.parties p known receives in
+    let found = at_right (items_behind plan g round) (items_waiting plan g round) (length (listeners plan g round p)) (waiting plan g round p)
+    (mapped (waiting plan g round) (listeners plan g round plan.parties) _ p there) in
+    subst (λ (k : ℕ). slice_get (items_behind plan g (suc k)) (length (items_behind plan g round) + length (listeners plan g round p)) ≡ Some (waiting plan g round p)) same found)
+    (λ (other : round ≢ n).
+    at_left (items_behind plan g n) (items_waiting plan g n) _ (waiting plan g round p)
+    (behind_found plan g n round p (omega (arith, less, other)) known receives))
+    (cases_eq round n)
 
--- the number of an item among those of its gate
-abbrev pub place_of : Gates → Item → ℕ
-place_of plan i = cond (eqb i.stage 0) i.party.0 (plan.parties + length (listeners plan i.gate i.party.0))
+later_stage_found : (plan : Gates) (g round p : ℕ) → round < rounds plan g → p < plan.parties → hears plan p g round ≡ true →
+    slice_get (items_of plan g) (place_by plan g p (Some round)) ≡ Some (waiting plan g round p)
+later_stage_found plan g round p inside known receives =
+    let front = each plan.parties (item g 0) in
+    let place = length (items_behind plan g round) + length (listeners plan g round p) in
+    let found = at_right front (items_behind plan g (rounds plan g)) place (waiting plan g round p) (behind_found plan g (rounds plan g) round p inside known receives) in
+    let at : length front + place ≡ plan.parties + place = ap (λ (n : ℕ). n + place) (length-each plan.parties (item g 0)) in
+    subst (λ (k : ℕ). slice_get (items_of plan g) k ≡ Some (waiting plan g round p)) at found
+
+-- a stage that waits for no round is the first one
+pub awaits_none : (plan : Gates) (p g stage : ℕ) → stage < stages plan p g → awaits plan p g stage ≡ None → stage ≡ 0
+awaits_none plan p g zero less none = refl
+awaits_none plan p g (suc stage) less none =
+    let contrary = sym none ∙ there_is (heard_rounds plan p g) stage 0 (omega (arith, less)) in
+    cc
 
 pub place_found : (plan : Gates) (i : Item) → IsItem plan i → slice_get (items_of plan i.gate) (place_of plan i) ≡ Some i
-place_found plan i is =
-    ⊎_elim
-    (λ (first : i.stage ≡ 0).
-    let found = first_found plan i.gate i.party.0 is.party in
-    rw (eq-eqb i.stage 0 first) (found ∙ ap (λ (s : ℕ). Some (item i.gate s i.party.0)) (sym first)))
-    (λ (second : (i.stage ≡ 1) × (hears plan i.party.0 i.gate 0 ≡ true)).
-    let found = second_found plan i.gate i.party.0 is.party second.1 in
-    let apart : i.stage ≢ 0 = λ same. absurd (omega (arith, same, second.0)) in
-    rw (ne_eqb i.stage 0 apart) (found ∙ ap (λ (s : ℕ). Some (item i.gate s i.party.0)) (sym second.0)))
-    is.stage
+place_found plan i is = by (awaits plan i.party.0 i.gate i.stage) refl
+  where
+    by : (o : Option ℕ) → awaits plan i.party.0 i.gate i.stage ≡ o → slice_get (items_of plan i.gate) (place_by plan i.gate i.party.0 o) ≡ Some i
+    by None e =
+        let first = awaits_none plan i.party.0 i.gate i.stage is.stage e in
+        first_found plan i.gate i.party.0 is.party ∙ ap (λ (s : ℕ). Some (item i.gate s i.party.0)) (sym first)
+    by (Some round) e =
+        let known = waits plan i.party.0 i.gate i.stage round e in
+        let behind : suc (sent_in plan i.party.0 i.gate round) ≡ i.stage = omega (arith, known.behind) in
+        later_stage_found plan i.gate round i.party.0 known.inside is.party known.heard ∙ ap (λ (s : ℕ). Some (item i.gate s i.party.0)) behind
 
 -- what stands among the items of the gates before one stands there among more
 later_found : (plan : Gates) (n g k : ℕ) (i : Item) → g ≤ n → slice_get (items_before plan g) k ≡ Some i → slice_get (items_before plan n) k ≡ Some i
@@ -84,20 +123,20 @@ number_within plan i is = slice_get_within (all_items plan) (number_of plan i) i
 
 -- ---- what the code looks up
 
-pub second_stage : (plan : Gates) (p g : ℕ) (b : Bool) → hears plan p g 0 ≡ b → eqb (stages plan p g) 2 ≡ b
-second_stage plan p g true heard = ap (λ (rounds : List ℕ). eqb (1 + length rounds) 2) (heard_is plan p g true heard)
-second_stage plan p g false heard = ap (λ (rounds : List ℕ). eqb (1 + length rounds) 2) (heard_is plan p g false heard)
-
 -- the first item of a gate, as it stands in the list of all gates
 pub first_at : (plan : Gates) (firsts : List ℕ) (g first : ℕ) → firsts ≡ each (length plan.gates) (first_item plan) → g < length plan.gates → first ≡ get_or firsts g first → first ≡ first_item plan g
 first_at plan firsts g first are known read =
     let there = slice_get-each (length plan.gates) (first_item plan) g known in
     read ∙ ap (λ (xs : List ℕ). get_or xs g first) are ∙ got (each (length plan.gates) (first_item plan)) g (first_item plan g) first there
 
--- all numbers are small
-pub few_items : (plan : Gates) (g : ℕ) → IsPlan plan → g ≤ length plan.gates → length (items_before plan g) + 16 < 2 ^ 27
-few_items plan g is within =
-    let few = few_before plan g in
-    let wide : plan.parties + plan.parties ≤ 16 = omega (arith, is.most_parties) in
-    let more : g * (plan.parties + plan.parties) ≤ g * 16 = mul-le-mul_left g wide in
-    omega (arith, few, more, within, is.few)
+-- one round more of those that wait
+pub behind_more : (plan : Gates) (g round count more : ℕ) → count ≡ length (items_behind plan g round) → more ≡ length (listeners plan g round plan.parties) →
+    count + more ≡ length (items_behind plan g (suc round))
+behind_more plan g round count more before here =
+    let split = length-append (items_behind plan g round) (items_waiting plan g round) in
+    let same = length-map (listeners plan g round plan.parties) (waiting plan g round) in
+    omega (arith, split, same, before, here)
+
+-- the round that a stage waits for is one of the gate's
+pub round_small : (plan : Gates) (p g stage round : ℕ) → awaits plan p g stage ≡ Some round → round < 3
+round_small plan p g stage round e = let known = waits plan p g stage round e in omega (arith, known.inside, rounds_are_few plan g)

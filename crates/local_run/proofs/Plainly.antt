@@ -17,9 +17,9 @@ use Rattle.joint_run.specs.Honest.{own_at, AreHonest, AreInputs, RecombineBy}
 use Rattle.joint_run.proofs.Grown.{grown-get}
 use Rattle.joint_run.proofs.Recombining.{every_gate_recombines}
 use Rattle.joint_run.proofs.Unique.{one_joint_run}
-use Rattle.local_run.specs.declared.report.PartyReport.{PartyReport}
-use Rattle.local_run.specs.Loads.{tells_at}
-use Rattle.local_run.specs.Report.{told_to, plain_told, AreReports}
+use Rattle.gate_tasks.specs.declared.report.PartyReport.{PartyReport}
+use Rattle.gate_tasks.specs.Report.{tells_at, told_to}
+use Rattle.local_run.specs.Report.{plain_told, AreReports}
 use Rattle.local_run.proofs.Valid.{Passes, all_passing}
 use Rattle.std.proofs.lemmas.Option.{slice_get_within}
 use Rattle.mot_base.proofs.Lists.{all_implied as all_more, index_at as got_index}

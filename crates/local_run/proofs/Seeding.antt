@@ -24,7 +24,8 @@ use Rattle.joint_run.specs.Party.{Own}
 use Rattle.joint_run.specs.Honest.{Taken, taken_by, own_at, no_part, AreInputs}
 use Rattle.gate_tasks.specs.Stage.{own_with, taken_from, HasInput}
 use Rattle.local_run.specs.Inputs.{TakesInputs}
-use Rattle.local_run.specs.Job.{IsJob, ServeParty}
+use Rattle.gate_tasks.specs.Serving.{ServeParty}
+use Rattle.local_run.specs.Job.{IsJob}
 use Rattle.local_run.specs.Meaning.{owns_with}
 use Rattle.local_run.specs.OneSeed.{own_flags, own_of, owns_of, ServeAll, HonestPartsServe, JobsOfSeedServe, JobsOfSeedAreHonest}
 use Rattle.local_run.proofs.Serving.{own_is}

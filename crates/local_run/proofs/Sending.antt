@@ -1,5 +1,5 @@
 -- What a stage gives is what the edges from its item carry.
-use Rattle.std.proofs.Common.{◌≡◌, ℕ, zero, suc, ◌+◌, ◌-◌, ◌<◌, Bool, true, false, cond, eqb, List, [], ◌∷◌, length, map, Option, Some, None, refl, sym, ap, ◌∙◌, subst, arith}
+use Rattle.std.proofs.Common.{◌≡◌, ℕ, zero, suc, ◌+◌, ◌-◌, ◌<◌, Bool, true, false, cond, eqb, List, [], ◌∷◌, length, Option, Some, None, refl, sym, ap, ◌∙◌, subst, arith}
 use Rattle.std.specs.Prelude.{slice_get, option_map, is_some, IfSome, IsSome}
 use Rattle.std.specs.List.{AllByRecursion, flat_map}
 use Rattle.std.proofs.lemmas.Bool.{eq-eqb, ne_eqb}
@@ -7,9 +7,9 @@ use Rattle.mot_base.specs.declared.Party.{Party}
 use Rattle.message_demux.specs.Slots.{has_high_bits}
 use Rattle.plan_gates.specs.Gate.{Gate}
 use Rattle.plan_gates.specs.declared.message.Message.{Message as Sent}
-use Rattle.plan_gates.specs.Plan.{Gates}
-use Rattle.plan_gates.specs.Messages.{hears, stages, rounds, message}
-use Rattle.plan_gates.proofs.MessageLemmas.{any_here, heard_is}
+use Rattle.plan_gates.specs.Plan.{Gates, IsPlan}
+use Rattle.plan_gates.specs.Messages.{hears, stages, rounds, heard_rounds, sent_in, message}
+use Rattle.plan_gates.proofs.MessageLemmas.{is_sent, awaits_heard}
 use Rattle.gate_tasks.specs.declared.value.Value.{Value as ValueInMemory}
 use Rattle.gate_tasks.specs.declared.outgoing.Out.{Out}
 use Rattle.gate_tasks.specs.declared.stage.StageOut.{StageOut}
@@ -17,16 +17,18 @@ use Rattle.joint_run.specs.Party.{Own, Payload, Hand, Rounds, party_value, round
 use Rattle.joint_run.specs.Joint.{Payloads, column, sent_by, IsJoint}
 use Rattle.joint_run.specs.Honest.{own_at, nobody}
 use Rattle.joint_run.specs.Laws.{length_of}
-use Rattle.gate_tasks.specs.Stage.{value_of, gate_of, out_to, outs_in, outs_of, rounds_sent, receivers, is_last, value_on, formed_before, IsOf, HasShape}
+use Rattle.gate_tasks.specs.Stage.{value_of, gate_of, out_to, outs_in, outs_of, rounds_sent, receivers, is_last, value_on, formed_before, carried_to, IsOf, HasShape}
 use Rattle.joint_run.proofs.Grown.{there_is}
 use Rattle.joint_run.proofs.Lengths.{payloads_have_their_lengths}
+use Rattle.joint_run.proofs.Narrow.{payloads_have_their_shapes}
+use Rattle.std.proofs.lemmas.Option.{slice_get_within}
 use Rattle.local_run.specs.declared.item.Load.{Load}
 use Rattle.local_run.specs.declared.item.Load.TheVariants.{Wire, Kept, Message}
 use Rattle.local_run.specs.declared.cargo.Cargo.{Cargo}
 use Rattle.local_run.specs.declared.cargo.Cargo.TheVariants as cargo
 use Rattle.local_run.specs.Loads.{giver, IsGiven}
 use Rattle.local_run.specs.Meaning.{place_in, IsMeant, IsTo, Sends, HasCargo, IsCargo, HasRun}
-use Rattle.local_run.proofs.Lists.{at_left, at_right, passing, passing_found}
+use Rattle.local_run.proofs.Lists.{at_left, at_right, passing_found}
 use Rattle.local_run.proofs.Valid.{all_map}
 use Rattle.mot_base.proofs.Lists.{same_some as some_is, all_append, mapped_at as mapped, all_at}
 
@@ -64,44 +66,38 @@ in_flat f (w ∷ xs) (suc i) j x y there here =
     let rest = in_flat f xs i j x y there here in
     record { at = length (f w) + rest.at; there = at_right (f w) (flat_map f xs) rest.at y rest.there }
 
--- ---- what is sent in the first stage
+-- ---- what is sent in a stage
 
 -- an edge that carries what is kept is at a party that receives, and one that carries a payload has one
 abbrev pub IsReal : Gates → Load → Type 0
 IsReal plan (Wire g p) = Unit {0}
-IsReal plan (Kept g p) = hears plan p.0 g 0 ≡ true
-IsReal plan (Message g from to) = (to.0 < plan.parties) × (is_some (message plan from.0 to.0 g 0) ≡ true)
+IsReal plan (Kept g round p) = (round < rounds plan g) × (hears plan p.0 g round ≡ true)
+IsReal plan (Message g round from to) = (to.0 < plan.parties) × (is_some (message plan from.0 to.0 g round) ≡ true)
 
-some_round : (plan : Gates) (g from to : ℕ) → from < plan.parties → is_some (message plan from to g 0) ≡ true → 0 < rounds plan g
-some_round plan g from to known sent =
-    let heard : hears plan to g 0 ≡ true = any_here (λ q. is_some (message plan q to g 0)) plan.parties from known sent in
-    more_than_none (rounds plan g) (hears plan to g) (heard_is plan to g true heard)
-  where
-    more_than_none : (n : ℕ) (test : ℕ → Bool) → passing test n ≡ 0 ∷ [] → 0 < n
-    more_than_none zero test is = cc
-    more_than_none (suc n) test is = omega arith
+-- where there is a message, the gate has the round
+round_there : (plan : Gates) (g round from to : ℕ) (o : Option Sent) → message plan from to g round ≡ o → is_some o ≡ true → round < rounds plan g
+round_there plan g round from to None there some = cc
+round_there plan g round from to (Some m) there some = (is_sent plan from to g round m there).round
 
-first_round : (plan : Gates) (g from : ℕ) → 0 < rounds plan g → slice_get (rounds_sent plan from g 0) 0 ≡ Some 0
-first_round plan g from some =
-    passing_found (λ round. eqb (length (passing (hears plan from g) round)) 0) (rounds plan g) 0 some refl
-
-out_found : (h : Hand) (got : Rounds) (to : ℕ) → h.me < h.plan.parties → to < h.plan.parties → is_some (message h.plan h.me to h.gate 0) ≡ true →
-    IsFound (outs_of h got 0) (out_to h got 0 to)
-out_found h got to known member sent =
-    let receiver = passing_found (λ q. is_some (message h.plan h.me q h.gate 0)) h.plan.parties to member sent in
-    in_flat (outs_in h got) (rounds_sent h.plan h.me h.gate 0) 0 _ 0 (out_to h got 0 to)
-    (first_round h.plan h.gate h.me (some_round h.plan h.gate h.me to known sent))
-    (mapped (out_to h got 0) (receivers h.plan h.me h.gate 0) _ to receiver)
+out_found : (h : Hand) (got : Rounds) (round to : ℕ) → to < h.plan.parties → is_some (message h.plan h.me to h.gate round) ≡ true →
+    IsFound (outs_of h got (sent_in h.plan h.me h.gate round)) (out_to h got round to)
+out_found h got round to member sent =
+    let inside = round_there h.plan h.gate round h.me to (message h.plan h.me to h.gate round) refl sent in
+    let stage = sent_in h.plan h.me h.gate round in
+    let receiver = passing_found (λ q. is_some (message h.plan h.me q h.gate round)) h.plan.parties to member sent in
+    let of_stage = passing_found (λ r. eqb (sent_in h.plan h.me h.gate r) stage) (rounds h.plan h.gate) round inside (eq-eqb stage stage refl) in
+    in_flat (outs_in h got) (rounds_sent h.plan h.me h.gate stage) _ _ round (out_to h got round to) of_stage
+    (mapped (out_to h got round) (receivers h.plan h.me h.gate round) _ to receiver)
 
 -- ---- in a joint run
 
-module _ (plan : Gates) (owns : List Own) (count : length owns ≡ plan.parties) where
-  pub sent_is : (table : Payloads) → IsJoint plan owns table → (g from to : ℕ) → from < plan.parties →
-      round_sends (slice_get plan.gates g) (place_in plan owns table from g) (column table from g) 0 to ≡ table g 0 from to
-  sent_is table joint g from to known =
+module _ (plan : Gates) (owns : List Own) (valid : IsPlan plan) (count : length owns ≡ plan.parties) where
+  pub sent_is : (table : Payloads) → IsJoint plan owns table → (g round from to : ℕ) → from < plan.parties →
+      round_sends (slice_get plan.gates g) (place_in plan owns table from g) (column table from g) round to ≡ table g round from to
+  sent_is table joint g round from to known =
       let there = there_is owns from nobody (omega (arith, known, count)) in
-      let here : table g 0 from to ≡ sent_by plan from (Some (own_at owns from)) (column table from) g 0 to =
-      joint g 0 from to ∙ ap (λ (o : Option Own). sent_by plan from o (column table from) g 0 to) there in
+      let here : table g round from to ≡ sent_by plan from (Some (own_at owns from)) (column table from) g round to =
+      joint g round from to ∙ ap (λ (o : Option Own). sent_by plan from o (column table from) g round to) there in
       sym here
 
   -- ---- values
@@ -125,48 +121,50 @@ module _ (plan : Gates) (owns : List Own) (count : length owns ≡ plan.parties)
 
   -- ---- what is kept
 
-  kept_given : (table : Payloads) (g : ℕ) (p : Party) (given : StageOut) → hears plan p.0 g 0 ≡ true → IsJoint plan owns table → HasRun plan owns (giver plan (Kept g p)) given →
-      given.carried ≡ Some (formed_before (place_in plan owns table p.0 g) (column table p.0 g) 1)
-  kept_given table g p given heard joint run =
-      let long = ap (λ (rs : List ℕ). length rs) (heard_is plan p.0 g true heard) in
-      let more : is_last plan p.0 g 0 ≡ false = ne_eqb (stages plan p.0 g) (0 + 1) (λ same. absurd (omega (arith, long, same))) in
+  kept_given : (table : Payloads) (g round : ℕ) (p : Party) (given : StageOut) → IsReal plan (Kept g round p) → IsJoint plan owns table → HasRun plan owns (giver plan (Kept g round p)) given →
+      given.carried ≡ carried_to (place_in plan owns table p.0 g) (column table p.0 g) (suc (sent_in plan p.0 g round))
+  kept_given table g round p given real joint run =
+      let stage = sent_in plan p.0 g round in
+      let within = slice_get_within (heard_rounds plan p.0 g) stage round (awaits_heard plan p.0 g round real.0 real.1) in
+      let more : is_last plan p.0 g stage ≡ false = ne_eqb (stages plan p.0 g) (stage + 1) (λ same. absurd (omega (arith, within, same))) in
       (run.gives table joint).carries
-      ∙ ap (λ (b : Bool). cond b None (Some (formed_before (place_in plan owns table p.0 g) (column table p.0 g) 1))) more
+      ∙ ap (λ (b : Bool). cond b None (Some (formed_before (place_in plan owns table p.0 g) (column table p.0 g) (suc stage)))) more
 
   some_by : {X : Type 0} (o : Option X) (x : X) → o ≡ Some x → IsSome o
   some_by o x is = ap (λ p. is_some p) is
 
   -- ---- payloads
 
-  payload_given : (table : Payloads) (g : ℕ) (from to : Party) (given : StageOut) → from.0 < plan.parties → IsReal plan (Message g from to) → IsJoint plan owns table → HasRun plan owns (giver plan (Message g from to)) given →
-      Sends given.out to (table g 0 from.0 to.0)
-  payload_given table g from to given known real joint run =
+  payload_given : (table : Payloads) (g round : ℕ) (from to : Party) (given : StageOut) → from.0 < plan.parties → IsReal plan (Message g round from to) → IsJoint plan owns table → HasRun plan owns (giver plan (Message g round from to)) given →
+      Sends given.out round to (table g round from.0 to.0)
+  payload_given table g round from to given known real joint run =
       let h : Hand = place_in plan owns table from.0 g in
       let got : Rounds = column table from.0 g in
-      let found = out_found h got to.0 known real.0 real.1 in
+      let found = out_found h got round to.0 real.0 real.1 in
       let there = ap (λ (os : List Out). slice_get os found.at) (run.gives table joint).sends ∙ found.there in
-      (found.at, out_to h got 0 to.0, record { there = there; receiver = refl; round = refl }, sent_is table joint g from.0 to.0 known)
+      (found.at, out_to h got round to.0, record { there = there; receiver = refl; of_round = refl }, sent_is table joint g round from.0 to.0 known)
 
-  payload_is : (table : Payloads) (g : ℕ) (from to : Party) (given : StageOut) (payload : Payload) → from.0 < plan.parties → IsJoint plan owns table → HasRun plan owns (giver plan (Message g from to)) given →
-      Sends given.out to payload → payload ≡ table g 0 from.0 to.0
-  payload_is table g from to given payload known joint run sends =
+  payload_is : (table : Payloads) (g round : ℕ) (from to : Party) (given : StageOut) (payload : Payload) → from.0 < plan.parties → IsJoint plan owns table → HasRun plan owns (giver plan (Message g round from to)) given →
+      Sends given.out round to payload → payload ≡ table g round from.0 to.0
+  payload_is table g round from to given payload known joint run sends =
       let h : Hand = place_in plan owns table from.0 g in
       let got : Rounds = column table from.0 g in
       let o = sends.1 in
-      let is : IsTo given.out to sends.0 o = sends.2 in
+      let stage = sent_in plan from.0 g round in
+      let is : IsTo given.out round to sends.0 o = sends.2 in
       let there = ap (λ (os : List Out). slice_get os sends.0) (sym (run.gives table joint).sends) ∙ is.there in
-      let sent : IsSentIn h got o = all_at (IsSentIn h got) (outs_of h got 0) sends.0 o (outs_are h got 0) there in
-      let same : round_sends (gate_of h) h got o.round o.to.0 ≡ round_sends (gate_of h) h got 0 to.0 =
-      ap (λ (r : ℕ). round_sends (gate_of h) h got r o.to.0) is.round ∙ ap (λ (q : Party). round_sends (gate_of h) h got 0 q.0) is.receiver in
-      sym sends.3 ∙ sent ∙ same ∙ sent_is table joint g from.0 to.0 known
+      let sent : IsSentIn h got o = all_at (IsSentIn h got) (outs_of h got stage) sends.0 o (outs_are h got stage) there in
+      let same : round_sends (gate_of h) h got o.round o.to.0 ≡ round_sends (gate_of h) h got round to.0 =
+      ap (λ (r : ℕ). round_sends (gate_of h) h got r o.to.0) is.of_round ∙ ap (λ (q : Party). round_sends (gate_of h) h got round q.0) is.receiver in
+      sym sends.3 ∙ sent ∙ same ∙ sent_is table joint g round from.0 to.0 known
 
   -- ---- all of them
 
   -- the stage of the item that gives it has what an edge carries
   pub has_cargo : (table : Payloads) (load : Load) (given : StageOut) → IsJoint plan owns table → IsGiven plan load → IsReal plan load → HasRun plan owns (giver plan load) given → HasCargo given load
   has_cargo table (Wire g p) given joint is real run = there_by value_of given.value _ (value_given table g p given joint run)
-  has_cargo table (Kept g p) given joint is real run = some_by given.carried _ (kept_given table g p given real joint run)
-  has_cargo table (Message g from to) given joint is real run = (table g 0 from.0 to.0, payload_given table g from to given is.party real joint run)
+  has_cargo table (Kept g round p) given joint is real run = some_by given.carried _ (kept_given table g round p given real joint run)
+  has_cargo table (Message g round from to) given joint is real run = (table g round from.0 to.0, payload_given table g round from to given is.party real joint run)
 
   fits_by : (g : ℕ) (v : ValueInMemory) (o : Option Gate) → slice_get plan.gates g ≡ o → ((gate : Gate) → slice_get plan.gates g ≡ Some gate → IsOf gate v) → IfSome o (λ gate. IsOf gate v)
   fits_by g v None there typed = tt
@@ -184,18 +182,18 @@ module _ (plan : Gates) (owns : List Own) (count : length owns ≡ plan.parties)
   )
   is_meant table (Wire g p) (cargo.Kept k) given joint is real run here = absurd here
   is_meant table (Wire g p) (cargo.Message bytes) given joint is real run here = absurd here
-  is_meant table (Kept g p) (cargo.Kept k) given joint is real run here = (
+  is_meant table (Kept g round p) (cargo.Kept k) given joint is real run here = (
     tt,
-    λ other other_joint. some_is k _ (sym here ∙ kept_given other g p given real other_joint run),
+    λ other other_joint. sym here ∙ kept_given other g round p given real other_joint run,
   )
-  is_meant table (Kept g p) (cargo.Value v) given joint is real run here = absurd here
-  is_meant table (Kept g p) (cargo.Message bytes) given joint is real run here = absurd here
-  is_meant table (Message g from to) (cargo.Message bytes) given joint is real run here =
-      let same : bytes ≡ table g 0 from.0 to.0 = payload_is table g from to given bytes is.party joint run here in (
-        shape_by bytes (message plan from.0 to.0 g 0)
-            (ap length same ∙ payloads_have_their_lengths plan owns table count joint g 0 from.0 to.0)
-            (λ m there. ap (has_high_bits m.shape) same ∙ run.shaped table joint refl to.0 m there),
-        λ other other_joint. payload_is other g from to given bytes is.party other_joint run here,
+  is_meant table (Kept g round p) (cargo.Value v) given joint is real run here = absurd here
+  is_meant table (Kept g round p) (cargo.Message bytes) given joint is real run here = absurd here
+  is_meant table (Message g round from to) (cargo.Message bytes) given joint is real run here =
+      let same : bytes ≡ table g round from.0 to.0 = payload_is table g round from to given bytes is.party joint run here in (
+        shape_by bytes (message plan from.0 to.0 g round)
+            (ap length same ∙ payloads_have_their_lengths plan owns table count joint g round from.0 to.0)
+            (λ m there. ap (has_high_bits m.shape) same ∙ payloads_have_their_shapes plan owns table valid count joint g round from.0 to.0 m there),
+        λ other other_joint. payload_is other g round from to given bytes is.party other_joint run here,
       )
-  is_meant table (Message g from to) (cargo.Value v) given joint is real run here = absurd here
-  is_meant table (Message g from to) (cargo.Kept k) given joint is real run here = absurd here
+  is_meant table (Message g round from to) (cargo.Value v) given joint is real run here = absurd here
+  is_meant table (Message g round from to) (cargo.Kept k) given joint is real run here = absurd here

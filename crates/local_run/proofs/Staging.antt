@@ -1,22 +1,21 @@
 -- What flows into an item is what its stage takes.
-use Rattle.std.proofs.Common.{◌≡◌, ◌≢◌, ℕ, zero, suc, ◌<◌, true, cond, eqb, List, [], ◌∷◌, ◌++◌, length, map, get_or, Option, Some, None, refl, sym, ap, ap₂, ◌∙◌, subst, arith, ⊎_elim}
+use Rattle.std.proofs.Common.{◌≡◌, ℕ, zero, suc, ◌<◌, List, [], ◌∷◌, ◌++◌, length, map, get_or, Option, Some, None, refl, sym, ap, ap₂, ◌∙◌, subst, arith}
 use Rattle.std.specs.Prelude.{slice_get, IfSome}
 use Rattle.std.specs.List.{AllByRecursion, flat_map}
-use Rattle.std.proofs.lemmas.Bool.{eq-eqb, ne_eqb}
 use Rattle.std.proofs.lemmas.Grind.{flat_map-append}
 use Rattle.std.proofs.lemmas.List.{append-nil}
 use Rattle.mot_base.specs.declared.Party.{Party}
 use Rattle.plan_gates.specs.Gate.{Gate}
 use Rattle.plan_gates.specs.declared.message.Message.{Message as Sent}
 use Rattle.plan_gates.specs.Plan.{Gates, IsPlan}
-use Rattle.plan_gates.specs.Messages.{hears, message, awaits}
-use Rattle.plan_gates.proofs.MessageLemmas.{heard_is}
+use Rattle.plan_gates.specs.Messages.{message, awaits, sent_in}
+use Rattle.plan_gates.proofs.MessageLemmas.{waits}
 use Rattle.gate_tasks.specs.declared.value.Value.{Value as ValueInMemory}
 use Rattle.joint_run.specs.Party as party
 use Rattle.joint_run.specs.Party.{Own, Payload, wires_before, party_value}
 use Rattle.joint_run.specs.Joint.{Payloads, column, IsJoint}
 use Rattle.joint_run.specs.Honest.{own_at}
-use Rattle.gate_tasks.specs.Stage.{value_of, operands_at, senders, heard_in, IsStage, IsOf, HasShape, AreOperands, AreAwaited}
+use Rattle.gate_tasks.specs.Stage.{value_of, operands_at, senders, heard_in, carried_to, IsStage, IsOf, HasShape, AreOperands, AreAwaited}
 use Rattle.joint_run.proofs.Grown.{got, grown-get}
 use Rattle.local_run.specs.declared.item.Item.{Item}
 use Rattle.local_run.specs.declared.item.Load.{Load}
@@ -26,8 +25,9 @@ use Rattle.local_run.specs.declared.cargo.Cargo.TheVariants as cargo
 use Rattle.local_run.specs.Cargo.{values_of, payloads_of, kept_after}
 use Rattle.local_run.specs.Items.{IsItem}
 use Rattle.local_run.specs.Loads as loads
-use Rattle.local_run.specs.Loads.{wires_to, heard_by, loads_to}
+use Rattle.local_run.specs.Loads.{wires_to, waited_for, loads_to}
 use Rattle.local_run.specs.Meaning.{place_in, IsMeant, AreMeant}
+use Rattle.local_run.proofs.Numbers.{awaits_none}
 use Rattle.local_run.proofs.Valid.{operands_are_before}
 use Rattle.mot_base.proofs.Lists.{same_some as some_is}
 
@@ -75,42 +75,42 @@ types_are plan owns p (y ∷ xs) (cargo.Message bytes ∷ cs) meant i x gate v t
 
 -- ---- payloads
 
-record ArePayloads (plan : Gates) (owns : List Own) (g : ℕ) (p : Party) (froms : List ℕ) (cs : List Cargo) : Type 0 where
+record ArePayloads (plan : Gates) (owns : List Own) (g round : ℕ) (p : Party) (froms : List ℕ) (cs : List Cargo) : Type 0 where
   count : length (flat_map payloads_of cs) ≡ length froms
-  payloads : (table : Payloads) → IsJoint plan owns table → flat_map payloads_of cs ≡ map (λ from. table g 0 from p.0) froms
+  payloads : (table : Payloads) → IsJoint plan owns table → flat_map payloads_of cs ≡ map (λ from. table g round from p.0) froms
   values : flat_map values_of cs ≡ []
   kept : (before : Option (List (List ℕ))) → kept_after before cs ≡ before
 
-abbrev messages : ℕ → Party → List ℕ → List Load
-messages g p froms = map (λ from. Message g (loads.party from) p) froms
+abbrev messages : ℕ → ℕ → Party → List ℕ → List Load
+messages g round p froms = map (λ from. Message g round (loads.party from) p) froms
 
-payloads_are : (plan : Gates) (owns : List Own) (g : ℕ) (p : Party) (froms : List ℕ) (cs : List Cargo) → AreMeant plan owns (messages g p froms) cs → ArePayloads plan owns g p froms cs
-payloads_are plan owns g p [] [] meant = record { count = refl; payloads = λ table joint. refl; values = refl; kept = λ before. refl }
-payloads_are plan owns g p [] (c ∷ cs) meant = absurd meant
-payloads_are plan owns g p (from ∷ froms) [] meant = absurd meant
-payloads_are plan owns g p (from ∷ froms) (cargo.Message bytes ∷ cs) meant =
-    let rest = payloads_are plan owns g p froms cs meant.1 in
+payloads_are : (plan : Gates) (owns : List Own) (g round : ℕ) (p : Party) (froms : List ℕ) (cs : List Cargo) → AreMeant plan owns (messages g round p froms) cs → ArePayloads plan owns g round p froms cs
+payloads_are plan owns g round p [] [] meant = record { count = refl; payloads = λ table joint. refl; values = refl; kept = λ before. refl }
+payloads_are plan owns g round p [] (c ∷ cs) meant = absurd meant
+payloads_are plan owns g round p (from ∷ froms) [] meant = absurd meant
+payloads_are plan owns g round p (from ∷ froms) (cargo.Message bytes ∷ cs) meant =
+    let rest = payloads_are plan owns g round p froms cs meant.1 in
     record {
       count = let more = rest.count in omega (arith, more);
       payloads = λ table joint. ap₂ (λ (y : Payload) (ys : List Payload). y ∷ ys) (meant.0.1 table joint) (rest.payloads table joint);
       values = rest.values;
       kept = rest.kept;
     }
-payloads_are plan owns g p (from ∷ froms) (cargo.Kept k ∷ cs) meant = absurd meant.0.0
-payloads_are plan owns g p (from ∷ froms) (cargo.Value v ∷ cs) meant = absurd meant.0.0
+payloads_are plan owns g round p (from ∷ froms) (cargo.Kept k ∷ cs) meant = absurd meant.0.0
+payloads_are plan owns g round p (from ∷ froms) (cargo.Value v ∷ cs) meant = absurd meant.0.0
 
-shapes_are : (plan : Gates) (owns : List Own) (g : ℕ) (p : Party) (froms : List ℕ) (cs : List Cargo) → AreMeant plan owns (messages g p froms) cs →
-    (i from : ℕ) (m : Sent) (payload : Payload) → slice_get froms i ≡ Some from → message plan from p.0 g 0 ≡ Some m → slice_get (flat_map payloads_of cs) i ≡ Some payload → HasShape m payload
-shapes_are plan owns g p [] cs meant i from m payload there found read = cc
-shapes_are plan owns g p (f ∷ froms) [] meant i from m payload there found read = absurd meant
-shapes_are plan owns g p (f ∷ froms) (cargo.Message bytes ∷ cs) meant zero from m payload there found read =
+shapes_are : (plan : Gates) (owns : List Own) (g round : ℕ) (p : Party) (froms : List ℕ) (cs : List Cargo) → AreMeant plan owns (messages g round p froms) cs →
+    (i from : ℕ) (m : Sent) (payload : Payload) → slice_get froms i ≡ Some from → message plan from p.0 g round ≡ Some m → slice_get (flat_map payloads_of cs) i ≡ Some payload → HasShape m payload
+shapes_are plan owns g round p [] cs meant i from m payload there found read = cc
+shapes_are plan owns g round p (f ∷ froms) [] meant i from m payload there found read = absurd meant
+shapes_are plan owns g round p (f ∷ froms) (cargo.Message bytes ∷ cs) meant zero from m payload there found read =
     let same : f ≡ from = some_is f from there in
     let value : bytes ≡ payload = some_is bytes payload read in
-    let fits : HasShape m bytes = subst (λ (o : Option Sent). IfSome o (λ (other : Sent). HasShape other bytes)) (ap (λ (n : ℕ). message plan n p.0 g 0) same ∙ found) meant.0.0 in
+    let fits : HasShape m bytes = subst (λ (o : Option Sent). IfSome o (λ (other : Sent). HasShape other bytes)) (ap (λ (n : ℕ). message plan n p.0 g round) same ∙ found) meant.0.0 in
     subst (λ (u : Payload). HasShape m u) value fits
-shapes_are plan owns g p (f ∷ froms) (cargo.Message bytes ∷ cs) meant (suc i) from m payload there found read = shapes_are plan owns g p froms cs meant.1 i from m payload there found read
-shapes_are plan owns g p (f ∷ froms) (cargo.Kept k ∷ cs) meant i from m payload there found read = absurd meant.0.0
-shapes_are plan owns g p (f ∷ froms) (cargo.Value v ∷ cs) meant i from m payload there found read = absurd meant.0.0
+shapes_are plan owns g round p (f ∷ froms) (cargo.Message bytes ∷ cs) meant (suc i) from m payload there found read = shapes_are plan owns g round p froms cs meant.1 i from m payload there found read
+shapes_are plan owns g round p (f ∷ froms) (cargo.Kept k ∷ cs) meant i from m payload there found read = absurd meant.0.0
+shapes_are plan owns g round p (f ∷ froms) (cargo.Value v ∷ cs) meant i from m payload there found read = absurd meant.0.0
 
 -- ---- both, one behind the other
 
@@ -178,67 +178,61 @@ first_taken plan owns p g cs is meant =
       };
     }
 
--- what waits for round 0
-second_awaits : (plan : Gates) (p g : ℕ) → hears plan p g 0 ≡ true → awaits plan p g 1 ≡ Some 0
-second_awaits plan p g heard = ap (λ (rounds : List ℕ). slice_get rounds 0) (heard_is plan p g true heard)
-
-second_taken : (plan : Gates) (owns : List Own) (p : Party) (g : ℕ) (front : List Cargo) (c : Cargo) (back : List Cargo) → IsPlan plan → hears plan p.0 g 0 ≡ true →
-    AreMeant plan owns (wires_to plan g p) front → IsMeant plan owns (Kept g p) c → AreMeant plan owns (messages g p (senders plan p.0 g 0)) back → IsTaken plan owns p g 1 (front ++ (c ∷ back))
-second_taken plan owns p g front (cargo.Value v) back is heard wires kept heards = absurd kept.0
-second_taken plan owns p g front (cargo.Message bytes) back is heard wires kept heards = absurd kept.0
-second_taken plan owns p g front (cargo.Kept k) back is heard wires kept heards =
+-- what waits for a round
+later_taken : (plan : Gates) (owns : List Own) (p : Party) (g stage round : ℕ) (front : List Cargo) (c : Cargo) (back : List Cargo) → IsPlan plan → awaits plan p.0 g stage ≡ Some round →
+    AreMeant plan owns (wires_to plan g p) front → IsMeant plan owns (Kept g round p) c → AreMeant plan owns (messages g round p (senders plan p.0 g round)) back → IsTaken plan owns p g stage (front ++ (c ∷ back))
+later_taken plan owns p g stage round front (cargo.Value v) back is waiting wires kept heards = absurd kept.0
+later_taken plan owns p g stage round front (cargo.Message bytes) back is waiting wires kept heards = absurd kept.0
+later_taken plan owns p g stage round front (cargo.Kept k) back is waiting wires kept heards =
     let xs = operands_at plan.gates g in
-    let froms = senders plan p.0 g 0 in
+    let froms = senders plan p.0 g round in
     let cs : List Cargo = front ++ (cargo.Kept k ∷ back) in
     let values = values_are plan owns p xs front wires in
-    let payloads = payloads_are plan owns g p froms back heards in
+    let payloads = payloads_are plan owns g round p froms back heards in
     let same_values : flat_map values_of cs ≡ flat_map values_of front =
     flat_map-append values_of front (cargo.Kept k ∷ back) ∙ ap (λ ys. flat_map values_of front ++ ys) payloads.values ∙ append-nil (flat_map values_of front) in
     let same_payloads : flat_map payloads_of cs ≡ flat_map payloads_of back =
     flat_map-append payloads_of front (cargo.Kept k ∷ back) ∙ ap (λ ys. ys ++ flat_map payloads_of back) values.payloads in
     let same_kept : kept_after None cs ≡ Some k = kept_append None front (cargo.Kept k ∷ back) ∙ payloads.kept (Some k) in
-    let waits = second_awaits plan p.0 g heard in
+    let behind : suc (sent_in plan p.0 g round) ≡ stage = let known = waits plan p.0 g stage round waiting in omega (arith, known.behind) in
     record {
       operands = record {
         count = ap length same_values ∙ values.count;
         types = λ i x gate v there found read. types_are plan owns p xs front wires i x gate v there found (ap (λ ys. slice_get ys i) (sym same_values) ∙ read);
       };
-      awaited = subst (λ (o : Option ℕ). AreAwaited plan p.0 g o (flat_map payloads_of cs)) (sym waits) (record {
+      awaited = subst (λ (o : Option ℕ). AreAwaited plan p.0 g o (flat_map payloads_of cs)) (sym waiting) (record {
         count = ap length same_payloads ∙ payloads.count;
-        shapes = λ r i from m payload is_zero there found read.
-            let zero_is : 0 ≡ r = some_is 0 r is_zero in
-            shapes_are plan owns g p froms back heards i from m payload
-            (ap (λ (n : ℕ). slice_get (senders plan p.0 g n) i) zero_is ∙ there)
-            (ap (λ (n : ℕ). message plan from p.0 g n) zero_is ∙ found)
+        shapes = λ r i from m payload is_round there found read.
+            let round_is : round ≡ r = some_is round r is_round in
+            shapes_are plan owns g round p froms back heards i from m payload
+            (ap (λ (n : ℕ). slice_get (senders plan p.0 g n) i) round_is ∙ there)
+            (ap (λ (n : ℕ). message plan from p.0 g n) round_is ∙ found)
             (ap (λ ys. slice_get ys i) (sym same_payloads) ∙ read);
       });
       stage_is = λ table joint. record {
         wires_are = ap (map value_of) same_values ∙ values.values table joint ∙ operand_values plan owns table p.0 g is;
-        carried_is = same_kept ∙ ap (λ ks. Some ks) (kept.1 table joint);
+        carried_is = same_kept ∙ kept.1 table joint ∙ ap (carried_to (place_in plan owns table p.0 g) (column table p.0 g)) behind;
         heard_is =
             same_payloads ∙ payloads.payloads table joint
-            ∙ ap (λ (o : Option ℕ). heard_in (place_in plan owns table p.0 g) (column table p.0 g) o) (sym waits);
+            ∙ ap (λ (o : Option ℕ). heard_in (place_in plan owns table p.0 g) (column table p.0 g) o) (sym waiting);
       };
     }
 
 -- what flows into an item
 pub taken : (plan : Gates) (owns : List Own) (i : Item) (cs : List Cargo) → IsPlan plan → IsItem plan i → AreMeant plan owns (loads_to plan i) cs → IsTaken plan owns i.party i.gate i.stage cs
-taken plan owns i cs is item meant =
-    ⊎_elim
-    (λ (first : i.stage ≡ 0).
-    let none : cond (eqb i.stage 0) [] (heard_by plan i.gate i.party) ≡ [] = rw (eq-eqb i.stage 0 first) refl in
-    let wires = subst (λ (ls : List Load). AreMeant plan owns ls cs) (ap (λ (ls : List Load). wires_to plan i.gate i.party ++ ls) none ∙ append-nil (wires_to plan i.gate i.party)) meant in
-    subst (λ (s : ℕ). IsTaken plan owns i.party i.gate s cs) (sym first) (first_taken plan owns i.party i.gate cs is wires))
-    (λ (second : (i.stage ≡ 1) × (hears plan i.party.0 i.gate 0 ≡ true)).
-    let apart : i.stage ≢ 0 = λ same. absurd (omega (arith, same, second.0)) in
-    let all : cond (eqb i.stage 0) [] (heard_by plan i.gate i.party) ≡ heard_by plan i.gate i.party = rw (ne_eqb i.stage 0 apart) refl in
-    let both = subst (λ (ls : List Load). AreMeant plan owns ls cs) (ap (λ (ls : List Load). wires_to plan i.gate i.party ++ ls) all) meant in
-    let parts = split plan owns (wires_to plan i.gate i.party) (heard_by plan i.gate i.party) cs both in
-    let here : IsTaken plan owns i.party i.gate 1 cs = second_of plan owns i.party i.gate cs parts.front parts.back is second.1 parts.same parts.front_meant parts.back_meant in
-    subst (λ (s : ℕ). IsTaken plan owns i.party i.gate s cs) (sym second.0) here)
-    item.stage
+taken plan owns i cs is item meant = by (awaits plan i.party.0 i.gate i.stage) refl meant
   where
-    second_of : (plan : Gates) (owns : List Own) (p : Party) (g : ℕ) (cs front back : List Cargo) → IsPlan plan → hears plan p.0 g 0 ≡ true → cs ≡ front ++ back → AreMeant plan owns (wires_to plan g p) front → AreMeant plan owns (heard_by plan g p) back → IsTaken plan owns p g 1 cs
-    second_of plan owns p g cs front [] is heard same wires rest = absurd rest
-    second_of plan owns p g cs front (c ∷ back) is heard same wires rest =
-        subst (λ (xs : List Cargo). IsTaken plan owns p g 1 xs) (sym same) (second_taken plan owns p g front c back is heard wires rest.0 rest.1)
+    behind : (round : ℕ) (front back : List Cargo) → awaits plan i.party.0 i.gate i.stage ≡ Some round → cs ≡ front ++ back → AreMeant plan owns (wires_to plan i.gate i.party) front → AreMeant plan owns (waited_for plan i.gate i.party (Some round)) back → IsTaken plan owns i.party i.gate i.stage cs
+    behind round front [] e same wires rest = absurd rest
+    behind round front (c ∷ back) e same wires rest =
+        subst (λ (xs : List Cargo). IsTaken plan owns i.party i.gate i.stage xs) (sym same)
+        (later_taken plan owns i.party i.gate i.stage round front c back is e wires rest.0 rest.1)
+
+    by : (o : Option ℕ) → awaits plan i.party.0 i.gate i.stage ≡ o → AreMeant plan owns (wires_to plan i.gate i.party ++ waited_for plan i.gate i.party o) cs → IsTaken plan owns i.party i.gate i.stage cs
+    by None e all =
+        let first = awaits_none plan i.party.0 i.gate i.stage item.stage e in
+        let wires = subst (λ (ls : List Load). AreMeant plan owns ls cs) (append-nil (wires_to plan i.gate i.party)) all in
+        subst (λ (s : ℕ). IsTaken plan owns i.party i.gate s cs) (sym first) (first_taken plan owns i.party i.gate cs is wires)
+    by (Some round) e all =
+        let parts = split plan owns (wires_to plan i.gate i.party) (waited_for plan i.gate i.party (Some round)) cs all in
+        behind round parts.front parts.back e parts.same parts.front_meant parts.back_meant

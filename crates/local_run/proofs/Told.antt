@@ -1,10 +1,10 @@
 -- What each party is told, as outputs of the circuit.
-use Rattle.std.proofs.Common.{ℕ, zero, suc, ◌≡◌, ◌<◌, ◌≤◌, ◌+◌, Bool, true, false, cond, List, [], ◌∷◌, ◌++◌, length, map, take, Option, Some, None, refl, sym, ◌∙◌, ap, ap₂, arith, append-nil, append_assoc}
+use Rattle.std.proofs.Common.{ℕ, zero, suc, ◌≡◌, ◌≤◌, ◌+◌, Bool, true, false, cond, List, [], ◌∷◌, ◌++◌, length, map, take, Option, Some, None, refl, sym, ◌∙◌, ap, ap₂, arith, append-nil, append_assoc}
 use Rattle.std.specs.Prelude.{filter, slice_get, slice_index, option_map}
 use Rattle.std.specs.List.{flat_map}
 use Rattle.std.specs.Option.{unwrap_or}
 use Rattle.std.proofs.lemmas.Grind.{flat_map-append}
-use Rattle.std.proofs.lemmas.List.{length_push, take_all}
+use Rattle.std.proofs.lemmas.List.{take_all}
 use Rattle.std.proofs.lemmas.List.Elements.{filter-append}
 use Rattle.share_types.specs.declared.bits.Bits.{Bits}
 use Rattle.share_types.specs.Sums.{each}
@@ -14,12 +14,11 @@ use Rattle.circuit_tables.specs.Table.{Output, Told, asked, joined_bits, AreCut}
 use Rattle.mot_base.proofs.Lists.{take_next, length_taken, some_at as there, index_at as index_is}
 use Rattle.plan_gates.specs.Gate.{Gate, width_at, receiver_of}
 use Rattle.plan_gates.specs.Plan.{Gates}
-use Rattle.plan_gates.specs.Plain.{Outside, plain_before, number_at, GateTold, told_entry, told_by}
+use Rattle.plan_gates.specs.Plain.{Outside, plain_before, GateTold, told_entry, told_by}
 use Rattle.plan_gates.proofs.PlainLemmas.{length_plain}
 use Rattle.plan_gates.specs.Messages.{tells_by, tells}
 use Rattle.share_types.specs.Wires.{includes}
-use Rattle.local_run.specs.Loads.{tells_at, told_gates}
-use Rattle.local_run.specs.Report.{told_to}
+use Rattle.gate_tasks.specs.Report.{tells_at, told_gates, told_to}
 use Rattle.local_run.specs.Told.{ToldBitsAreThoseOfOutputs, bits_of_entries, outputs_to, AreToldInPlain}
 
 -- ---- the bits of all gates

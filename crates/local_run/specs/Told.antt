@@ -8,7 +8,8 @@ use Rattle.plan_gates.specs.Gate.{width_at}
 use Rattle.plan_gates.specs.Plan.{Gates}
 use Rattle.share_types.specs.Wires.{includes}
 use Rattle.plan_gates.specs.Plain.{Outside, GateTold, told_by}
-use Rattle.local_run.specs.Report.{told_to, plain_told}
+use Rattle.gate_tasks.specs.Report.{told_to}
+use Rattle.local_run.specs.Report.{plain_told}
 
 -- the bits that the gates of a plan tell a party, where these are the numbers of all gates
 abbrev pub bits_told_to : Gates → List ℕ → ℕ → List Bool

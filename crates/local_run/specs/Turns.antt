@@ -1,15 +1,31 @@
--- How many items a run of all parties has, in the parties' own terms. `Turns::drain` hands out each of them once.
-use Rattle.std.specs.Prelude.{ℕ, ◌≤◌, ◌+◌, length}
+-- How many items a run has, in the parties' own terms. `Turns::drain` hands out each of them once.
+use Rattle.std.specs.Prelude.{ℕ, ◌≡◌, ◌≤◌, ◌+◌, length}
 use Rattle.share_types.specs.Sums.{sum_to}
 use Rattle.plan_gates.specs.Plan.{Gates}
+use Rattle.plan_gates.specs.Messages.{rounds, stages}
 use Rattle.gate_tasks.specs.Stage.{senders}
 use Rattle.local_run.specs.Items.{all_items}
 
--- how many payloads are sent to a party, at all gates together
-abbrev pub payloads_to : Gates → ℕ → ℕ
-payloads_to plan p = sum_to (length plan.gates) (λ g. length (senders plan p g 0))
+-- how many items a party has: its stages of all gates
+abbrev pub items_at : Gates → ℕ → ℕ
+items_at plan p = sum_to (length plan.gates) (λ g. stages plan p g)
 
--- a run of all parties has at most as many items as each party has gates and payloads that are sent to it, together
+-- how many payloads are sent to a party at a gate, in all rounds, and at all gates together
+abbrev pub payloads_at : Gates → ℕ → ℕ → ℕ
+payloads_at plan p g = sum_to (rounds plan g) (λ round. length (senders plan p g round))
+
+abbrev pub payloads_to : Gates → ℕ → ℕ
+payloads_to plan p = sum_to (length plan.gates) (payloads_at plan p)
+
+-- one party has at most as many items as there are gates and payloads that are sent to it
+abbrev pub APartyHasFewItems : Type 0
+APartyHasFewItems = (plan : Gates) (p : ℕ) → items_at plan p ≤ length plan.gates + payloads_to plan p
+
+-- a run of all parties has the items of its parties
+abbrev pub ItemsAreThoseOfParties : Type 0
+ItemsAreThoseOfParties = (plan : Gates) → length (all_items plan) ≡ sum_to plan.parties (items_at plan)
+
+-- so it has at most as many items as each party has gates and payloads that are sent to it, together
 abbrev pub TurnsAreFew : Type 0
 TurnsAreFew =
     (plan : Gates) →

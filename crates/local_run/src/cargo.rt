@@ -8,7 +8,7 @@ use mot_base::Payload;
 pub(crate) enum Cargo {
     /// A party's value of a gate.
     Value(Value),
-    /// What a party keeps at a gate behind its first stage.
+    /// What a party carries at a gate from stage to stage.
     Kept(Carried),
     /// A payload.
     Message(Payload),

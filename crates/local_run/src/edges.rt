@@ -4,13 +4,14 @@ ghost use Rattle.std.specs.Prelude.{◌≡◌, ◌<◌, ◌≤◌, ◌+◌, ◌+
 ghost use Rattle.std.specs.List.{AllByRecursion};
 ghost use Rattle.share_types.specs.Sums.{each};
 ghost use Rattle.plan_gates.specs.Plan.{IsPlan};
-ghost use Rattle.local_run.specs.Items.{all_items, first_item, IsItem};
+ghost use Rattle.plan_gates.specs.Messages.{sent_in};
+ghost use Rattle.local_run.specs.Items.{item, all_items, first_item, IsItem};
 ghost use Rattle.local_run.specs.Loads.{all_loads, all_edges, edge_to, giver, IsGiven};
 
 use crate::item::{Item, Load};
 use crate::items::Items;
 use crate::loads::{push_loads, push_reports};
-use mot_base::NoMemory;
+use mot_base::{NoMemory, Party};
 use plan_gates::Plan;
 use std::alloc::Global;
 use turn_core::{Edge, TERMINAL};
@@ -55,6 +56,7 @@ fn push_edges(
     edges: &mut Vec<Edge>,
 ) -> Result<(), NoMemory>
     requires firsts { items.now.firsts.items ≡ each (length plan.now.gates) (first_item plan.now) }
+    requires plan { IsPlan plan.now }
     requires given { AllByRecursion (IsGiven plan.now) loads.now }
     ensures { OnOk result (edges.new.items ≡ edges.old.items ++ map (edge_to plan.now target) loads.now) }
 {
@@ -77,15 +79,24 @@ fn giver(plan: &Plan, load: Load) -> Item
             stage: plan.stages(party, gate) - 1,
             party,
         },
-        Load::Kept { gate, party } => Item {
+        Load::Kept { gate, round, party } => sender(plan, gate, round, party),
+        Load::Message {
             gate,
-            stage: 0,
-            party,
-        },
-        Load::Message { gate, from, .. } => Item {
-            gate,
-            stage: 0,
-            party: from,
-        },
+            round,
+            from,
+            ..
+        } => sender(plan, gate, round, from),
+    }
+}
+
+/// The item in which a party sends a round of a gate.
+fn sender(plan: &Plan, gate: u32, round: u8, party: Party) -> Item
+    requires { gate < length plan.now.gates }
+    ensures { result ≡ item gate (sent_in plan.now party.0 gate round) party.0 }
+{
+    Item {
+        gate,
+        stage: plan.sent_in(party, gate, round),
+        party,
     }
 }

@@ -13,9 +13,6 @@ use plan_gates::Plan;
 use std::alloc::Global;
 use turn_core::{Dag, DagError};
 
-/// One edge more cannot be numbered.
-const TOO_MANY_EDGES: usize = u32::MAX as usize;
-
 /// The items of a run, what its edges carry, and the graph of both.
 #[derive(Drop)]
 pub(crate) struct RunGraph {
@@ -34,9 +31,6 @@ impl RunGraph {
         let _parties = plan.parties();
         let items = Items::new(alloc, plan)?;
         let Edges { loads, edges } = Edges::new(alloc, plan, &items)?;
-        if edges.len() >= TOO_MANY_EDGES {
-            return Err(NoMemory);
-        }
         let list = items.list;
         match Dag::new(alloc, list.len() as u32, edges) {
             Ok(dag) => Ok(RunGraph {

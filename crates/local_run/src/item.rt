@@ -14,9 +14,21 @@ pub(crate) struct Item {
 #[derive(Clone, Copy)]
 pub(crate) enum Load {
     /// A party's value of a gate.
-    Wire { gate: u32, party: Party },
-    /// What a party keeps at a gate behind its first stage.
-    Kept { gate: u32, party: Party },
-    /// The payload of a gate's round 0 from one party to another.
-    Message { gate: u32, from: Party, to: Party },
+    Wire {
+        gate: u32,
+        party: Party,
+    },
+    /// What a party carries to its stage of a gate that waits for a round.
+    Kept {
+        gate: u32,
+        round: u8,
+        party: Party,
+    },
+    /// The payload of a round of a gate from one party to another.
+    Message {
+        gate: u32,
+        round: u8,
+        from: Party,
+        to: Party,
+    },
 }

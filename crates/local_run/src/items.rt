@@ -1,8 +1,8 @@
-ghost use Rattle.std.specs.Prelude.{◌≡◌, ◌<◌, ◌≤◌, ◌+◌, ◌++◌, map, length, IfOk, OnOk};
+ghost use Rattle.std.specs.Prelude.{◌≡◌, ◌<◌, ◌≤◌, ◌+◌, ◌*◌, ◌++◌, map, length, IfOk, OnOk};
 ghost use Rattle.share_types.specs.Sums.{each};
 ghost use Rattle.plan_gates.specs.Plan.{IsPlan};
-ghost use Rattle.plan_gates.specs.Messages.{hears};
-ghost use Rattle.local_run.specs.Items.{item, items_before, items_of, all_items, first_item, listeners, number_of};
+ghost use Rattle.plan_gates.specs.Messages.{rounds};
+ghost use Rattle.local_run.specs.Items.{item, items_before, items_behind, items_waiting, all_items, first_item, listeners, number_of, IsItem};
 
 use crate::item::Item;
 use mot_base::{NoMemory, Party};
@@ -28,7 +28,7 @@ impl Items {
         for gate in 0..plan.gates() {
             firsts.push(list.len() as u32)?;
             push_first_stages(plan, gate, &mut list)?;
-            push_second_stages(plan, gate, &mut list)?;
+            push_later_stages(plan, gate, &mut list)?;
         }
         Ok(Items { list, firsts })
     }
@@ -36,16 +36,18 @@ impl Items {
     /// The number of an item.
     pub(crate) fn number(&self, plan: &Plan, item: Item) -> u32
         requires firsts { self.now.firsts.items ≡ each (length plan.now.gates) (first_item plan.now) }
-        requires gate { item.gate < length plan.now.gates }
-        requires party { item.party.0 < plan.now.parties }
+        requires plan { IsPlan plan.now }
+        requires item { IsItem plan.now item }
         ensures { result ≡ number_of plan.now item }
     {
-        let parties = u32::from(plan.parties());
         let first = self.firsts[item.gate as usize];
-        if item.stage == 0 {
+        let Some(round) = plan.awaits(item.party, item.gate, item.stage) else {
             return first + u32::from(item.party.0);
-        }
-        first + parties + listeners_below(plan, item.gate, item.party)
+        };
+        first
+            + u32::from(plan.parties())
+            + waiting_before(plan, item.gate, round)
+            + listeners_below(plan, item.gate, round, item.party.0)
     }
 }
 
@@ -63,46 +65,63 @@ fn push_first_stages(plan: &Plan, gate: u32, items: &mut Vec<Item>) -> Result<()
     Ok(())
 }
 
-/// Adds the second stages of the parties that have one at a gate at the end.
-fn push_second_stages(plan: &Plan, gate: u32, items: &mut Vec<Item>) -> Result<(), NoMemory>
+/// Adds the stages of a gate that wait for a round at the end, round by round.
+fn push_later_stages(plan: &Plan, gate: u32, items: &mut Vec<Item>) -> Result<(), NoMemory>
     requires { gate < length plan.now.gates }
-    ensures { OnOk result (items.new.items
-        ≡ items.old.items ++ map (item gate 1) (listeners plan.now gate plan.now.parties)) }
+    ensures { OnOk result
+        (items.new.items ≡ items.old.items ++ items_behind plan.now gate (rounds plan.now gate)) }
+{
+    for round in 0..plan.rounds(gate) {
+        push_waiting(plan, gate, round, items)?;
+    }
+    Ok(())
+}
+
+/// Adds the stages of a gate that wait for one round at the end, by party.
+fn push_waiting(plan: &Plan, gate: u32, round: u8, items: &mut Vec<Item>) -> Result<(), NoMemory>
+    requires gate { gate < length plan.now.gates }
+    requires round { round < 255 }
+    ensures { OnOk result (items.new.items ≡ items.old.items ++ items_waiting plan.now gate round) }
 {
     for party in 0..plan.parties() {
-        if !is_listener(plan, gate, Party(party)) {
+        let party = Party(party);
+        if !plan.hears(party, gate, round) {
             continue;
         }
         items.push(Item {
             gate,
-            stage: 1,
-            party: Party(party),
+            stage: plan.sent_in(party, gate, round) + 1,
+            party,
         })?;
     }
     Ok(())
 }
 
-/// How many of the parties below one receive something at a gate.
-fn listeners_below(plan: &Plan, gate: u32, party: Party) -> u32
-    requires gate { gate < length plan.now.gates }
-    requires party { party.0 < plan.now.parties }
-    ensures value { result ≡ length (listeners plan.now gate party.0) }
-    ensures few { result ≤ party.0 }
+/// How many stages of a gate wait for a round before this one.
+fn waiting_before(plan: &Plan, gate: u32, round: u8) -> u32
+    requires { gate < length plan.now.gates }
+    ensures value { result ≡ length (items_behind plan.now gate round) }
+    ensures few { result ≤ 255 * round }
 {
     let mut count = 0;
-    for other in 0..party.0 {
-        if !is_listener(plan, gate, Party(other)) {
+    for earlier in 0..round {
+        count += listeners_below(plan, gate, earlier, plan.parties());
+    }
+    count
+}
+
+/// How many of the first parties receive something in a round of a gate.
+fn listeners_below(plan: &Plan, gate: u32, round: u8, parties: u8) -> u32
+    requires { gate < length plan.now.gates }
+    ensures value { result ≡ length (listeners plan.now gate round parties) }
+    ensures few { result ≤ parties }
+{
+    let mut count = 0;
+    for party in 0..parties {
+        if !plan.hears(Party(party), gate, round) {
             continue;
         }
         count += 1;
     }
     count
-}
-
-/// Whether a party receives something at a gate.
-fn is_listener(plan: &Plan, gate: u32, party: Party) -> bool
-    requires { gate < length plan.now.gates }
-    ensures { result ≡ hears plan.now party.0 gate 0 }
-{
-    plan.stages(party, gate) == 2
 }

@@ -1,6 +1,6 @@
 ghost use Rattle.local_run.specs.OneSeed.{HonestPartsServe, JobsOfSeedAreHonest, JobsOfSeedServe};
 ghost use Rattle.local_run.specs.Told.{ToldBitsAreThoseOfOutputs};
-ghost use Rattle.local_run.specs.Turns.{TurnsAreFew};
+ghost use Rattle.local_run.specs.Turns.{APartyHasFewItems, ItemsAreThoseOfParties, TurnsAreFew};
 
 /// The bits that the gates of a plan tell a party are those that its output gates tell that party, joined in order.
 pub fn told_bits_are_those_of_outputs()
@@ -15,8 +15,10 @@ pub fn jobs_of_seed_serve()
     ensures parts { HonestPartsServe }
 {}
 
-/// A run of all parties has at most as many items as each party has gates and payloads that are sent to it,
-/// together.
+/// A run of all parties has the items of its parties, of which each has at most as many as there are gates and payloads that
+/// are sent to it.
 pub fn turns_are_few()
-    ensures { TurnsAreFew }
+    ensures party { APartyHasFewItems }
+    ensures all { ItemsAreThoseOfParties }
+    ensures few { TurnsAreFew }
 {}

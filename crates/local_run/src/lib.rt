@@ -16,7 +16,7 @@ mod report;
 mod run;
 mod work;
 
+pub use gate_tasks::PartyReport;
 pub use job::LocalJob;
 pub use laws::{jobs_of_seed_serve, told_bits_are_those_of_outputs, turns_are_few};
-pub use report::PartyReport;
 pub use run::{local_pool, local_turns};

@@ -3,12 +3,11 @@
 ghost use Rattle.std.specs.Prelude.{◌≡◌, ◌<◌, ◌≤◌, ◌+◌, ◌++◌, ◌∷◌, [], map, length, slice_get, is_some, Some, IfOk, OnOk};
 ghost use Rattle.std.specs.Option.{option_to_list};
 ghost use Rattle.plan_gates.specs.Messages.{message};
-ghost use Rattle.share_types.specs.Wires.{includes};
+ghost use Rattle.gate_tasks.specs.Report.{told_to};
 ghost use Rattle.local_run.specs.declared.item.Load.TheVariants.{Wire};
-ghost use Rattle.local_run.specs.Loads.{wires_to, heard_by, loads_to, told_gates, sent_at, sent_before, report_loads, reports_loads};
+ghost use Rattle.local_run.specs.Loads.{wires_to, sent_to, loads_to, sent_round, sent_at, sent_before, report_loads, reports_loads};
 
 use crate::item::{Item, Load};
-use circuit_tables::Receiver;
 use mot_base::{NoMemory, Party};
 use plan_gates::Plan;
 
@@ -18,10 +17,15 @@ pub(crate) fn push_loads(plan: &Plan, item: Item, loads: &mut Vec<Load>) -> Resu
     ensures { OnOk result (loads.new.items ≡ loads.old.items ++ loads_to plan.now item) }
 {
     push_wires(plan, item.gate, item.party, loads)?;
-    if item.stage == 0 {
+    let Some(round) = plan.awaits(item.party, item.gate, item.stage) else {
         return Ok(());
-    }
-    push_heard(plan, item.gate, item.party, loads)?;
+    };
+    loads.push(Load::Kept {
+        gate: item.gate,
+        round,
+        party: item.party,
+    })?;
+    push_sent_to(plan, item.gate, round, item.party, loads)?;
     Ok(())
 }
 
@@ -60,19 +64,25 @@ fn push_wire(gate: Option<u32>, party: Party, loads: &mut Vec<Load>) -> Result<(
     Ok(())
 }
 
-/// Adds what a party waits for in its second stage of a gate at the end.
-fn push_heard(plan: &Plan, gate: u32, party: Party, loads: &mut Vec<Load>) -> Result<(), NoMemory>
+/// Adds what a party is sent in a round of a gate at the end.
+fn push_sent_to(
+    plan: &Plan,
+    gate: u32,
+    round: u8,
+    party: Party,
+    loads: &mut Vec<Load>,
+) -> Result<(), NoMemory>
     requires { gate < length plan.now.gates }
-    ensures { OnOk result (loads.new.items ≡ loads.old.items ++ heard_by plan.now gate party) }
+    ensures { OnOk result (loads.new.items ≡ loads.old.items ++ sent_to plan.now gate round party) }
 {
-    loads.push(Load::Kept { gate, party })?;
     for from in 0..plan.parties() {
         let from = Party(from);
-        if !is_sent(plan, gate, from, party) {
+        if !is_sent(plan, gate, round, from, party) {
             continue;
         }
         loads.push(Load::Message {
             gate,
+            round,
             from,
             to: party,
         })?;
@@ -83,7 +93,7 @@ fn push_heard(plan: &Plan, gate: u32, party: Party, loads: &mut Vec<Load>) -> Re
 /// Adds the values that are told to a party at the end.
 pub(crate) fn push_told(plan: &Plan, party: Party, loads: &mut Vec<Load>) -> Result<(), NoMemory>
     ensures { OnOk result (loads.new.items
-        ≡ loads.old.items ++ map (λ g. Wire g party) (told_gates plan.now party.0 (length plan.now.gates))) }
+        ≡ loads.old.items ++ map (λ g. Wire g party) (told_to plan.now party.0)) }
 {
     for gate in 0..plan.gates() {
         if !plan.tells(party, gate) {
@@ -110,13 +120,31 @@ fn push_sent_at(plan: &Plan, gate: u32, party: Party, loads: &mut Vec<Load>) -> 
     requires { gate < length plan.now.gates }
     ensures { OnOk result (loads.new.items ≡ loads.old.items ++ sent_at plan.now party gate) }
 {
+    for round in 0..plan.rounds(gate) {
+        push_sent_round(plan, gate, round, party, loads)?;
+    }
+    Ok(())
+}
+
+/// Adds what a party sends in a round of a gate at the end.
+fn push_sent_round(
+    plan: &Plan,
+    gate: u32,
+    round: u8,
+    party: Party,
+    loads: &mut Vec<Load>,
+) -> Result<(), NoMemory>
+    requires { gate < length plan.now.gates }
+    ensures { OnOk result (loads.new.items ≡ loads.old.items ++ sent_round plan.now party gate round) }
+{
     for to in 0..plan.parties() {
         let to = Party(to);
-        if !is_sent(plan, gate, party, to) {
+        if !is_sent(plan, gate, round, party, to) {
             continue;
         }
         loads.push(Load::Message {
             gate,
+            round,
             from: party,
             to,
         })?;
@@ -124,10 +152,10 @@ fn push_sent_at(plan: &Plan, gate: u32, party: Party, loads: &mut Vec<Load>) -> 
     Ok(())
 }
 
-/// Whether one party sends another something at a gate.
-fn is_sent(plan: &Plan, gate: u32, from: Party, to: Party) -> bool
+/// Whether one party sends another something in a round of a gate.
+fn is_sent(plan: &Plan, gate: u32, round: u8, from: Party, to: Party) -> bool
     requires { gate < length plan.now.gates }
-    ensures { result ≡ is_some (message plan.now from.0 to.0 gate 0) }
+    ensures { result ≡ is_some (message plan.now from.0 to.0 gate round) }
 {
-    plan.slot(from, to, gate, 0).is_some()
+    plan.slot(from, to, gate, round).is_some()
 }

@@ -99,17 +99,17 @@ fn last_cargo(alloc: Global, load: Load, given: StageOut) -> Result<Cargo, NoMem
     ensures { IfOk result (λ c. IsCargo given load c) }
 {
     match load {
-        Load::Message { to, .. } => Ok(last_message(given.out.into_vec(), to)),
+        Load::Message { round, to, .. } => Ok(last_message(given.out.into_vec(), round, to)),
         _ => cargo(alloc, load, &given),
     }
 }
 
-/// The payload of round 0 to a party, taken out of the messages.
-fn last_message(mut outs: Vec<Out>, to: Party) -> Cargo
-    requires { (payload : List ℕ) × Sends outs.items to payload }
-    ensures { (payload : List ℕ) × Sends outs.items to payload × (result ≡ cargo.Message payload) }
+/// The payload of a round to a party, taken out of the messages.
+fn last_message(mut outs: Vec<Out>, round: u8, to: Party) -> Cargo
+    requires { (payload : List ℕ) × Sends outs.items round to payload }
+    ensures { (payload : List ℕ) × Sends outs.items round to payload × (result ≡ cargo.Message payload) }
 {
-    let at = place_of(&outs, to);
+    let at = place_of(&outs, round, to);
     Cargo::Message(outs.swap_remove(at).payload)
 }
 
@@ -121,7 +121,7 @@ fn cargo(alloc: Global, load: Load, given: &StageOut) -> Result<Cargo, NoMemory>
     match load {
         Load::Wire { .. } => value(alloc, given),
         Load::Kept { .. } => kept(alloc, given),
-        Load::Message { to, .. } => message(alloc, given.out.as_slice(), to),
+        Load::Message { round, to, .. } => message(alloc, given.out.as_slice(), round, to),
     }
 }
 
@@ -149,23 +149,23 @@ fn kept(alloc: Global, given: &StageOut) -> Result<Cargo, NoMemory>
     Ok(Cargo::Kept(copy))
 }
 
-/// The payload of round 0 to a party.
-fn message(alloc: Global, outs: &[Out], to: Party) -> Result<Cargo, NoMemory>
-    requires { (payload : List ℕ) × Sends outs.now to payload }
+/// The payload of a round to a party.
+fn message(alloc: Global, outs: &[Out], round: u8, to: Party) -> Result<Cargo, NoMemory>
+    requires { (payload : List ℕ) × Sends outs.now round to payload }
     ensures { IfOk result (λ c.
-        (payload : List ℕ) × Sends outs.now to payload × (c ≡ cargo.Message payload)) }
+        (payload : List ℕ) × Sends outs.now round to payload × (c ≡ cargo.Message payload)) }
 {
-    let copy = outs[place_of(outs, to)].payload.copy(alloc)?;
+    let copy = outs[place_of(outs, round, to)].payload.copy(alloc)?;
     Ok(Cargo::Message(copy))
 }
 
-/// Where the message of round 0 to a party stands.
-fn place_of(outs: &[Out], to: Party) -> usize
-    requires { (payload : List ℕ) × Sends outs.now to payload }
-    ensures { (out : Out) × IsTo outs.now to result out }
+/// Where the message of a round to a party stands.
+fn place_of(outs: &[Out], round: u8, to: Party) -> usize
+    requires { (payload : List ℕ) × Sends outs.now round to payload }
+    ensures { (out : Out) × IsTo outs.now round to result out }
 {
     for (at, out) in outs.iter().enumerate() {
-        if out.to != to || out.round != 0 {
+        if out.to != to || out.round != round {
             continue;
         }
         return at;

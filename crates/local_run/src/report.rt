@@ -16,21 +16,12 @@ use crate::cargo::Cargo;
 use crate::item::Load;
 use crate::loads::{push_sent, push_told};
 use frames::message_head;
-use gate_tasks::Value;
+use gate_tasks::{PartyReport, Value};
 use mot_base::{NoMemory, Party};
 use plan_gates::Plan;
 use sha2::{Digest, Sha256};
 use share_types::BitsList;
 use std::alloc::Global;
-
-/// What a party is told by the output gates, in their order, and the digest of all that it sends.
-#[derive(Debug, Drop)]
-pub struct PartyReport {
-    /// Each in the width of its gate.
-    pub told: BitsList,
-    /// SHA-256 of the frames of the party's messages, sorted by gate and then by receiver. A gate has one round at most.
-    pub digest: [u8; 32],
-}
 
 /// The reports of all parties, of what came to the end of a run.
 pub(crate) fn reports(
@@ -110,13 +101,13 @@ fn add_frame(hasher: &mut Sha256, load: Load, cargo: &Cargo)
     ensures { (bytes : List ℕ) → Holds256 hasher.old bytes →
         Holds256 hasher.new (bytes ++ joined (frame_of load cargo.now)) }
 {
-    let Load::Message { gate, .. } = load else {
+    let Load::Message { gate, round, .. } = load else {
         return;
     };
     let Cargo::Message(payload) = cargo else {
         return;
     };
-    let head = message_head(gate, 0, payload);
+    let head = message_head(gate, round, payload);
     hasher.update(&head);
     hasher.update(payload.bytes());
 }

@@ -18,7 +18,7 @@ use Rattle.joint_run.specs.Party as party
 use Rattle.joint_run.specs.Party.{Own}
 use Rattle.joint_run.specs.Joint.{Payloads}
 use Rattle.joint_run.proofs.Unique.{one_joint_run}
-use Rattle.local_run.specs.declared.report.PartyReport.{PartyReport}
+use Rattle.gate_tasks.specs.declared.report.PartyReport.{PartyReport}
 use Rattle.local_run.specs.Report.{AreReports, IsReport}
 use Rattle.text_lines.specs.Text.{Text}
 use Rattle.motion_cli.specs.declared.dealer.PartFault.{PartFault}

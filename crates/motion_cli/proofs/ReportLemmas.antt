@@ -12,7 +12,7 @@ use Rattle.share_types.specs.Bits.{number}
 use Rattle.circuit_tables.specs.Table.{Output, Told, asked, is_asked, AreCut}
 use Rattle.mot_base.proofs.Lists.{take_next, some_at, last_at as last_there}
 use Rattle.text_lines.specs.Text.{Text}
-use Rattle.local_run.specs.declared.report.PartyReport.{PartyReport}
+use Rattle.gate_tasks.specs.declared.report.PartyReport.{PartyReport}
 use Rattle.motion_cli.specs.declared.report.Notation.{Notation}
 use Rattle.motion_cli.specs.declared.report.Notation.TheVariants.{Decimal, Hexadecimal}
 use Rattle.motion_cli.specs.Report.{hexadecimal_digits, AreShort, AreNarrow, PartyRun, output_line, output_lines, run_report, runs_report}

@@ -30,7 +30,7 @@ use Rattle.joint_run.specs.declared.own.Own.{Own as OwnInMemory}
 use Rattle.joint_run.specs.Joint.{Payloads, IsJoint}
 use Rattle.joint_run.specs.Honest.{no_part, AreHonest, AreInputs}
 use Rattle.joint_run.proofs.Unique.{one_joint_run}
-use Rattle.local_run.specs.declared.report.PartyReport.{PartyReport}
+use Rattle.gate_tasks.specs.declared.report.PartyReport.{PartyReport}
 use Rattle.local_run.specs.Inputs.{TakesInputs}
 use Rattle.local_run.specs.Job.{IsJob}
 use Rattle.local_run.specs.Meaning.{owns_with}

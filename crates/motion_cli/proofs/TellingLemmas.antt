@@ -29,7 +29,7 @@ use Rattle.plan_gates.specs.Plain.{Outside, only, plain_before, number_at, GateT
 use Rattle.share_types.specs.Wires.{includes}
 use Rattle.gate_plan.specs.Keeps.{unnamed, KeepsEvaluation}
 use Rattle.gate_plan.specs.Bristol.{told_bits, KeepsBristol}
-use Rattle.local_run.specs.Report.{told_to}
+use Rattle.gate_tasks.specs.Report.{told_to}
 use Rattle.local_run.specs.Told.{bits_of_entries, outputs_to, AreToldInPlain}
 use Rattle.local_run.proofs.Told.{told_bits_are_those_of_outputs}
 use Rattle.local_engine.proofs.Told.{mixed_outputs_are_told, bristol_outputs_are_told}

@@ -7,7 +7,7 @@ use Rattle.dealer_files.specs.Part.{Part}
 use Rattle.dealer_files.specs.Honest.{HonestTogether}
 use Rattle.joint_run.specs.Party.{Own}
 use Rattle.joint_run.specs.Joint.{Payloads, IsJoint}
-use Rattle.local_run.specs.declared.report.PartyReport.{PartyReport}
+use Rattle.gate_tasks.specs.declared.report.PartyReport.{PartyReport}
 use Rattle.local_run.specs.OneSeed.{owns_of}
 use Rattle.local_run.specs.Meaning.{owns_with}
 use Rattle.local_run.specs.Report.{AreReports}

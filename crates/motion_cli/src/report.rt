@@ -5,7 +5,7 @@ ghost use Rattle.share_types.specs.Bits.{number};
 ghost use Rattle.std.specs.List.{sum_by};
 ghost use Rattle.mot_base.specs.Limits.{most_parties};
 ghost use Rattle.circuit_tables.specs.Table.{asked, total_width};
-ghost use Rattle.local_run.specs.declared.report.PartyReport as spec;
+ghost use Rattle.gate_tasks.specs.declared.report.PartyReport as spec;
 ghost use Rattle.motion_cli.specs.Report.{hexadecimal_digits, AreShort, AreNarrow, PartyRun, output_line, output_lines, run_report, runs_report, needs_lines, needs_report};
 ghost use Rattle.motion_cli.specs.Outcome.{line};
 ghost use Rattle.motion_cli.specs.Run.{IsRunOf, AreRunsOf};

@@ -1,6 +1,6 @@
 -- The messages of gates: which rounds there are, who hears, and how long payloads are.
 use Rattle.std.proofs.Common.{ℕ, zero, suc, ◌≡◌, ◌<◌, ◌≤◌, ◌+◌, ◌*◌, Bool, true, false, cond, ◌||◌, List, [], ◌∷◌, ◌++◌, length, take, filter, Option, Some, None, inl, inr, refl, sym, ◌∙◌, ap, ap₂, subst, arith, suc-mul}
-use Rattle.std.specs.Prelude.{slice_get, is_some, option_map, nat_lt}
+use Rattle.std.specs.Prelude.{slice_get, option_map, nat_lt}
 use Rattle.std.specs.List.{list_any}
 use Rattle.std.specs.Option.{unwrap_or}
 use Rattle.std.proofs.lemmas.List.{length-append}
@@ -15,7 +15,7 @@ use Rattle.plan_gates.specs.declared.message.Message.{Message}
 use Rattle.plan_gates.specs.Gate.{Kind, Gate, InA, MulA, OutA, InB, AndB, OutB}
 use Rattle.plan_gates.specs.declared.draft.Sizes.{Sizes}
 use Rattle.plan_gates.specs.Plan.{Gates, sizes_of}
-use Rattle.plan_gates.specs.Messages.{words, vectors, messages_of, messages_at, message, are_two, hears, rounds, heard_rounds, GatesHaveOneRound}
+use Rattle.plan_gates.specs.Messages.{words, vectors, messages_of, messages_at, message, are_two, hears, rounds, awaits, sent_in}
 
 -- ---- all parties, one after another
 
@@ -47,7 +47,7 @@ any_here p (suc n) at h e = any_next p n ∙ elim (cases_lt at n) as (λ _. (lis
 
 -- ---- rounds
 
--- a kind has as many rounds for all parties, and at most one
+-- a kind has as many rounds for all parties, and at most three
 same_rounds : (kind : Kind) (sizes : Sizes) (f t : ℕ) → length (messages_of kind sizes f t) ≡ length (messages_of kind sizes 0 0)
 same_rounds (InA party k) sizes f t = refl
 same_rounds (MulA x y) sizes f t = refl
@@ -57,24 +57,21 @@ same_rounds (AndB x y) sizes f t = refl
 same_rounds (OutB x to) sizes f t = refl
 same_rounds _ sizes f t = refl
 
-one_round : (kind : Kind) (sizes : Sizes) → length (messages_of kind sizes 0 0) ≤ 1
-one_round (InA party k) sizes = omega arith
-one_round (MulA x y) sizes = omega arith
-one_round (OutA x to) sizes = omega arith
-one_round (InB party k at) sizes = omega arith
-one_round (AndB x y) sizes = omega arith
-one_round (OutB x to) sizes = omega arith
-one_round _ sizes = omega arith
-
-pub gates_have_one_round : GatesHaveOneRound
-gates_have_one_round plan g = by (slice_get plan.gates g)
-  where
-    by : (o : Option Gate) → length (messages_at plan o 0 0) ≤ 1
-    by None = omega arith
-    by (Some gate) = one_round gate.kind (sizes_of plan gate)
+few_rounds : (kind : Kind) (sizes : Sizes) → length (messages_of kind sizes 0 0) ≤ 3
+few_rounds (InA party k) sizes = omega arith
+few_rounds (MulA x y) sizes = omega arith
+few_rounds (OutA x to) sizes = omega arith
+few_rounds (InB party k at) sizes = omega arith
+few_rounds (AndB x y) sizes = omega arith
+few_rounds (OutB x to) sizes = omega arith
+few_rounds _ sizes = omega arith
 
 pub rounds_are_few : (plan : Gates) (g : ℕ) → rounds plan g ≤ 3
-rounds_are_few plan g = let one = gates_have_one_round plan g in omega arith
+rounds_are_few plan g = by (slice_get plan.gates g)
+  where
+    by : (o : Option Gate) → length (messages_at plan o 0 0) ≤ 3
+    by None = omega arith
+    by (Some gate) = few_rounds gate.kind (sizes_of plan gate)
 
 -- behind the last round there is no message
 pub in_rounds : (plan : Gates) (g from to round : ℕ) (m : Message) →
@@ -170,32 +167,73 @@ is_sent plan from to g round m e =
     within None there e = cc
     within (Some gate) there e = inside_of plan.gates g gate there
 
--- ---- where a gate has at most one round, a party hears in that one or in none
+-- ---- what a stage waits for
 
-silent : (plan : Gates) (from to g : ℕ) → rounds plan g ≡ 0 → (o : Option Message) → message plan from to g 0 ≡ o → is_some o ≡ false
-silent plan from to g none None e = refl
-silent plan from to g none (Some m) e = let is = is_sent plan from to g 0 m e in let within = is.round in absurd (omega arith)
+-- a stage that waits for a round is the one behind that in which the party sends it, and the party receives in it
+pub record Waits (plan : Gates) (p g stage round : ℕ) : Type 0 where
+  pub behind : stage ≡ sent_in plan p g round + 1
+  pub inside : round < rounds plan g
+  pub heard : hears plan p g round ≡ true
 
-none_any : (p : ℕ → Bool) (n : ℕ) → ((k : ℕ) → p k ≡ false) → list_any p (each n (λ k. k)) ≡ false
-none_any p zero silence = refl
-none_any p (suc n) silence = any_next p n ∙ ap₂ (λ a b. a || b) (none_any p n silence) (silence n)
+record IsPlace (test : ℕ → Bool) (n k at : ℕ) : Type 0 where
+  below : at < n
+  passes : test at ≡ true
+  count : k ≡ length (passing test at)
 
-unheard : (plan : Gates) (to g : ℕ) → rounds plan g ≡ 0 → hears plan to g 0 ≡ false
-unheard plan to g none =
-    none_any (λ from. is_some (message plan from to g 0)) plan.parties
-    (λ from. silent plan from to g none (message plan from to g 0) refl)
+-- what stands at a place of those that pass
+place : (test : ℕ → Bool) (n k at : ℕ) → slice_get (passing test n) k ≡ Some at → IsPlace test n k at
+place test zero k at e = cc
+place test (suc n) k at e = elim (cases_lt k (length (passing test n))) as (λ _. IsPlace test (suc n) k at) [
+  | inl small ↦
+      (let there = sym (before_at (passing test n) (filter test (n ∷ [])) k small) ∙ (ap (λ (xs : List ℕ). slice_get xs k) (sym (passing_next test n)) ∙ e) in
+      let rest = place test n k at there in
+      let less = rest.below in
+      record { below = omega arith; passes = rest.passes; count = rest.count })
+  | inr large ↦ last (test n) refl large
+]
+  where
+    last : (b : Bool) → test n ≡ b → length (passing test n) ≤ k → IsPlace test (suc n) k at
+    last true f large =
+        let one : filter test (n ∷ []) ≡ n ∷ [] = rw f refl in
+        let all : passing test (suc n) ≡ passing test n ++ n ∷ [] = passing_next test n ∙ ap (λ xs. passing test n ++ xs) one in
+        let inside = inside_of (passing test (suc n)) k at e in
+        let long = ap (λ (xs : List ℕ). length xs) all ∙ length-append (passing test n) (n ∷ []) in
+        let here : k ≡ length (passing test n) = omega arith in
+        let is : n ≡ at = same_some n at (sym (ap (slice_get (passing test n ++ n ∷ [])) here ∙ last_at (passing test n) n) ∙ (ap (λ (xs : List ℕ). slice_get xs k) (sym all) ∙ e)) in
+        let P : ℕ → Type 0 = λ q. IsPlace test (suc n) k q in
+        subst P is (record { below = omega arith; passes = f; count = here })
+    last false f large =
+        let one : filter test (n ∷ []) ≡ [] = rw f refl in
+        let all : passing test (suc n) ≡ passing test n ++ [] = passing_next test n ∙ ap (λ xs. passing test n ++ xs) one in
+        let none : List ℕ = [] in
+        let inside = inside_of (passing test (suc n)) k at e in
+        let long = ap (λ (xs : List ℕ). length xs) all ∙ length-append (passing test n) none in
+        absurd (omega arith)
 
-heard_in : (n : ℕ) (test : ℕ → Bool) → n ≤ 1 → (n ≡ 0 → test 0 ≡ false) → (b : Bool) → test 0 ≡ b →
-    filter test (each n (λ k. k)) ≡ cond b (0 ∷ []) []
-heard_in zero test few silence true e = let contrary = sym e ∙ silence refl in cc
-heard_in zero test few silence false e = refl
-heard_in (suc zero) test few silence true e = rw e refl
-heard_in (suc zero) test few silence false e = rw e refl
-heard_in (suc (suc n)) test few silence b e = absurd (omega arith)
+pub waits : (plan : Gates) (p g stage round : ℕ) → awaits plan p g stage ≡ Some round → Waits plan p g stage round
+waits plan p g zero round e = cc
+waits plan p g (suc stage) round e =
+    let is = place (hears plan p g) (rounds plan g) stage round e in
+    let count = is.count in
+    record { behind = omega arith; inside = is.below; heard = is.passes }
 
-pub heard_is : (plan : Gates) (to g : ℕ) (b : Bool) → hears plan to g 0 ≡ b → heard_rounds plan to g ≡ cond b (0 ∷ []) []
-heard_is plan to g b e =
-    heard_in (rounds plan g) (hears plan to g) (gates_have_one_round plan g) (unheard plan to g) b e
+-- and each round in which it receives has such a stage
+pub awaits_heard : (plan : Gates) (p g round : ℕ) → round < rounds plan g → hears plan p g round ≡ true →
+    awaits plan p g (suc (sent_in plan p g round)) ≡ Some round
+awaits_heard plan p g round h e = passing_at (hears plan p g) (rounds plan g) round h e
+
+-- fewer pass below a smaller number
+pub passing_fewer : (test : ℕ → Bool) (m n : ℕ) → m ≤ n → length (passing test m) ≤ length (passing test n)
+passing_fewer test m zero h = let none : m ≡ 0 = omega arith in subst (λ k. length (passing test k) ≤ length (passing test 0)) (sym none) (omega arith)
+passing_fewer test m (suc n) h = elim (cases_lt m (suc n)) as (λ _. length (passing test m) ≤ length (passing test (suc n))) [
+  | inl small ↦
+      (let before = passing_fewer test m n (omega arith) in
+      let next = ap (λ (xs : List ℕ). length xs) (passing_next test n) ∙ length-append (passing test n) (filter test (n ∷ [])) in
+      omega arith)
+  | inr large ↦
+      (let same : suc n ≡ m = omega arith in
+      subst (λ k. length (passing test m) ≤ length (passing test k)) (sym same) (omega arith))
+]
 
 -- ---- how long payloads are
 

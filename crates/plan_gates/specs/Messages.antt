@@ -1,5 +1,5 @@
 -- The messages of a plan: who sends what to whom at which gate, in which round.
-use Rattle.std.specs.Prelude.{ℕ, zero, suc, ◌≡◌, ◌≤◌, ◌+◌, ◌*◌, Bool, false, ◌&&◌, not, ◌==◌, nat_lt, List, [], ◌∷◌, ◌++◌, length, filter, slice_get, Option, Some, None, option_map, is_some, if◌then◌else◌}
+use Rattle.std.specs.Prelude.{ℕ, zero, suc, ◌≡◌, ◌+◌, ◌*◌, Bool, false, ◌&&◌, not, ◌==◌, nat_lt, List, [], ◌∷◌, ◌++◌, length, filter, slice_get, Option, Some, None, option_map, is_some, if◌then◌else◌}
 use Rattle.std.specs.List.{list_any}
 use Rattle.std.specs.Option.{unwrap_or}
 use Rattle.share_types.specs.Sums.{each}
@@ -57,10 +57,6 @@ hears plan to g round = list_any (λ from. is_some (message plan from to g round
 abbrev pub rounds : Gates → ℕ → ℕ
 rounds plan g = length (messages_at plan (slice_get plan.gates g) 0 0)
 
--- each gate has one round at most
-abbrev pub GatesHaveOneRound : Type 0
-GatesHaveOneRound = (plan : Gates) (g : ℕ) → rounds plan g ≤ 1
-
 -- the rounds of a gate in which a party receives, in order
 abbrev pub heard_rounds : Gates → ℕ → ℕ → List ℕ
 heard_rounds plan to g = filter (hears plan to g) (each (rounds plan g) (λ round. round))
@@ -73,6 +69,10 @@ stages plan to g = 1 + length (heard_rounds plan to g)
 abbrev pub awaits : Gates → ℕ → ℕ → ℕ → Option ℕ
 awaits plan to g zero = None
 awaits plan to g (suc stage) = slice_get (heard_rounds plan to g) stage
+
+-- the stage in which a party sends a round: it has received in as many of the rounds before
+abbrev pub sent_in : Gates → ℕ → ℕ → ℕ → ℕ
+sent_in plan from g round = length (filter (hears plan from g) (each round (λ r. r)))
 
 -- ---- all messages to a party
 

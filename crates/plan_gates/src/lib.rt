@@ -11,6 +11,6 @@ mod slots;
 
 pub use draft::Draft;
 pub use gate::{GateKind, Operands};
-pub use laws::{gates_have_one_round, records_never_meet};
+pub use laws::records_never_meet;
 pub use message_demux::{Shape, SlotSpec};
 pub use plan::Plan;

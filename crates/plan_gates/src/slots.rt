@@ -1,5 +1,5 @@
 ghost use Rattle.std.specs.Prelude.{◌≡◌, ◌<◌, ◌≤◌, length, option_map, slice_get, Some, IfOk};
-ghost use Rattle.plan_gates.specs.Messages.{message, hears, rounds, stages, awaits, tells, outputs_of, AreSlotsTo};
+ghost use Rattle.plan_gates.specs.Messages.{message, hears, rounds, stages, awaits, sent_in, tells, outputs_of, AreSlotsTo};
 
 use crate::message::{Message, message_in, rounds_of, tells};
 use crate::plan::Plan;
@@ -40,7 +40,7 @@ impl Plan {
     }
 
     /// Whether some party sends this one a message in a round of a gate.
-    fn hears(&self, party: Party, gate: u32, round: u8) -> bool
+    pub fn hears(&self, party: Party, gate: u32, round: u8) -> bool
         requires { gate < length self.now.gates }
         ensures { result ≡ hears self.now party.0 gate round }
     {
@@ -83,6 +83,21 @@ impl Plan {
             }
         }
         None
+    }
+
+    /// The stage of a gate in which a party sends a round: it has received in as many of the rounds before.
+    pub fn sent_in(&self, sender: Party, gate: u32, round: u8) -> u8
+        requires { gate < length self.now.gates }
+        ensures value { result ≡ sent_in self.now sender.0 gate round }
+        ensures few { result ≤ round }
+    {
+        let mut stage = 0;
+        for before in 0..round {
+            if self.hears(sender, gate, before) {
+                stage += 1;
+            }
+        }
+        stage
     }
 
     /// Whether a gate tells its value to a party.

@@ -93,12 +93,12 @@ returns-clause-sent c =
     let wide : c.bits-x.result.width ≡ width_at env.plan.now.gates env.gate =
     c.bits-x.ensures.width ∙ sym (its_width env.plan.now.gates env.gate c.width.result c.width.ensures) in
     c.in_ok-outs.ensures
-    ∙ outs_same env (λ to. payload_of (slice_get shares to)) (λ to. vectors_bytes (width_at env.plan.now.gates env.gate) (given_vector (stand env) to ∷ []))
+    ∙ outs_same env 0 (λ to. payload_of (slice_get shares to)) (λ to. vectors_bytes (width_at env.plan.now.gates env.gate) (given_vector (stand env) to ∷ []))
     (λ to inside sent.
     let (v, at) = inside_there shares to (omega (arith, long, parties, inside)) in
     let word : v.word ≡ share_of_tape env.own.now.seed.0 env.own.now.session env.gate to % 2 ^ c.bits-x.result.width =
     field_at (λ (y : Bits). y.word) shares c.parties.result _ to v c.in_ok-shares.ensures.words (omega (arith, parties, inside)) at
-    ∙ given_share c.bits-x.result env.own.now.seed.0 env.own.now.session env.gate me c.parties.result to (omega (arith, inside, most)) (is_other env.plan.now me to env.gate sent) in
+    ∙ given_share c.bits-x.result env.own.now.seed.0 env.own.now.session env.gate me c.parties.result to (omega (arith, inside, most)) (is_other env.plan.now me to env.gate 0 sent) in
     let width : v.width ≡ c.bits-x.result.width =
     field_at (λ (y : Bits). y.width) shares c.parties.result _ to v c.in_ok-shares.ensures.widths (omega (arith, parties, inside)) at in
     ap payload_of at

@@ -40,6 +40,6 @@ returns-clause-sent c =
     let same : c.parties.result ≡ env.plan.now.parties = c.parties.ensures.value in
     let others = c.in_ok-shares.ensures.others in
     c.in_ok-outs.ensures
-    ∙ outs_same env (λ to. word_bytes (slice_index c.in_ok-shares.shares.items to ∷ [])) (λ to. word_bytes (given_word (stand env) to ∷ []))
+    ∙ outs_same env 0 (λ to. word_bytes (slice_index c.in_ok-shares.shares.items to ∷ [])) (λ to. word_bytes (given_word (stand env) to ∷ []))
     (λ to inside sent. ap (λ (w : ℕ). word_bytes (w ∷ []))
-    (got_index c.in_ok-shares.shares.items to (given_word (stand env) to) (others to (subst (λ n. to < n) (sym same) inside) (is_other env.plan.now me to env.gate sent))))
+    (got_index c.in_ok-shares.shares.items to (given_word (stand env) to) (others to (subst (λ n. to < n) (sym same) inside) (is_other env.plan.now me to env.gate 0 sent))))

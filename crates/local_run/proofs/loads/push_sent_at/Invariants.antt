@@ -1,12 +1,9 @@
-use Rattle.std.proofs.Common.{◌≡◌, ◌++◌, map, is_some}
-use Rattle.plan_gates.specs.Messages.{message}
-use Rattle.local_run.specs.declared.item.Load.TheVariants.{Message}
-use Rattle.local_run.specs.Loads.{party}
-use Rattle.local_run.proofs.Lists.{passing}
+use Rattle.std.proofs.Common.{◌≡◌, ◌++◌}
+use Rattle.std.specs.List.{flat_map}
+use Rattle.share_types.specs.Sums.{each}
+use Rattle.local_run.specs.Loads.{sent_round}
 use Rattle.local_run.proofs.loads.push_sent_at.Given as goal
 
-abbrev pub invariant-loop-to : goal.invariant-loop-to
-invariant-loop-to l =
-    l.loads.items
-    ≡ l.initial.loads.items
-    ++ map (λ to. Message l.gate l.party (party to)) (passing (λ to. is_some (message l.plan l.party.0 to l.gate 0)) l.to)
+abbrev pub invariant-loop-round : goal.invariant-loop-round
+invariant-loop-round l =
+    l.loads.items ≡ l.initial.loads.items ++ flat_map (sent_round l.plan l.party l.gate) (each l.round (λ round. round))

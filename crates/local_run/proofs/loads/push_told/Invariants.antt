@@ -1,6 +1,6 @@
 use Rattle.std.proofs.Common.{◌≡◌, ◌++◌, map}
 use Rattle.local_run.specs.declared.item.Load.TheVariants.{Wire}
-use Rattle.local_run.specs.Loads.{told_gates}
+use Rattle.gate_tasks.specs.Report.{told_gates}
 use Rattle.local_run.proofs.loads.push_told.Given as goal
 
 abbrev pub invariant-loop-gate : goal.invariant-loop-gate

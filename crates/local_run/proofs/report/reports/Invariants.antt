@@ -2,7 +2,7 @@ use Rattle.std.proofs.Common.{◌≡◌, ℕ, List, length, drop, Some}
 use Rattle.std.specs.Prelude.{slice_get}
 use Rattle.joint_run.specs.Party.{Own}
 use Rattle.joint_run.specs.Joint.{Payloads, IsJoint}
-use Rattle.local_run.specs.declared.report.PartyReport.{PartyReport}
+use Rattle.gate_tasks.specs.declared.report.PartyReport.{PartyReport}
 use Rattle.local_run.specs.Loads.{reports_loads}
 use Rattle.local_run.specs.Meaning.{AreMeant}
 use Rattle.local_run.specs.Report.{IsReport}

@@ -45,7 +45,7 @@ returns c =
     let p = c.args.item.party.0 in
     let own_in : p < length c.args.job.now.owns.items = omega (arith, c.requires.item.party, c.requires.job.owns_count) in
     let part_in : p < length c.args.parts.now = omega (arith, c.requires.item.party, c.requires.job.parts_count) in
-    has_run c.args.job.now.plan c.args.job.now.owns.items c.args.parts.now c.args.item c.index.result.now _ c.args.inputs.now.items c.in_ok-given.given c.requires.plan c.requires.job c.requires.item
+    has_run c.args.job.now.plan c.args.job.now.owns.items c.args.parts.now c.args.item c.index.result.now _ c.args.inputs.now.items c.in_ok-given.given c.requires.job
     (read_there c.args.job.now.owns.items p c.index.result.now own_in c.index.ensures)
     (read_there c.args.parts.now p c.index-parts-party.result part_in c.index-parts-party.is)
     (taken c.args.job.now.plan (owns_with c.args.job.now.owns.items c.args.parts.now) c.args.item c.args.inputs.now.items c.requires.plan c.requires.item c.requires.inputs)
