@@ -11,7 +11,8 @@ ghost use Rattle.plan_gates.specs.Needs.{all_needs};
 ghost use Rattle.joint_run.specs.declared.own.Own.{Own};
 ghost use Rattle.gate_tasks.specs.Stage.{HasInput, IsOf, AreOperands};
 ghost use Rattle.gate_tasks.specs.Task.{HoldTypes};
-ghost use Rattle.local_run.specs.Job.{ServeParty, IsJob};
+ghost use Rattle.local_run.specs.Job.{IsJob};
+ghost use Rattle.gate_tasks.specs.Serving.{ServeParty};
 
 use circuit_values::InputTable;
 use dealer_files::DealerPart;

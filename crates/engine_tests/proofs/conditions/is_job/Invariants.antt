@@ -2,7 +2,7 @@ use Rattle.std.proofs.Common.{◌≡◌, ◌<◌, ℕ, Some}
 use Rattle.std.specs.Prelude.{slice_get}
 use Rattle.dealer_files.specs.Part.{Part}
 use Rattle.joint_run.specs.declared.own.Own.{Own}
-use Rattle.local_run.specs.Job.{ServeParty}
+use Rattle.gate_tasks.specs.Serving.{ServeParty}
 use Rattle.engine_tests.proofs.conditions.is_job.Given as goal
 
 abbrev pub invariant-loop-at : goal.invariant-loop-at
