@@ -1,4 +1,4 @@
-ghost use Rattle.std.specs.Prelude.{◌≡◌, ◌<◌, ◌≤◌, ◌+◌, ◌*◌, ◌^◌, [], length, map, take, drop, slice_index_or, All, IfOk, if◌then◌else◌};
+ghost use Rattle.std.specs.Prelude.{◌≡◌, ◌↔◌, true, ◌<◌, ◌≤◌, ◌+◌, ◌*◌, ◌^◌, [], length, map, take, drop, slice_index_or, All, IfOk, if◌then◌else◌};
 ghost use Rattle.circuit_tables.specs.Values.{kept_of};
 ghost use Rattle.mot_base.specs.Limits.{most_width};
 ghost use Rattle.share_types.specs.Bits as vector;
@@ -41,6 +41,17 @@ impl Values {
     {
         let bits = &self.values[input as usize];
         bits_of(bits, at as usize, width)
+    }
+
+    /// Whether an input has `width` bits from bit `at` on. One that is not there has no bits.
+    pub fn has_bits(&self, input: u32, at: u32, width: u8) -> bool
+        ensures { (result ≡ true) ↔ (at + width ≤ length (slice_index_or self.now input [])) }
+    {
+        let end = at as usize + usize::from(width);
+        match self.values.get(input as usize) {
+            Some(bits) => end <= bits.len(),
+            None => end == 0,
+        }
     }
 
     /// The number of each value, whose bit `i` counts `2^i`.

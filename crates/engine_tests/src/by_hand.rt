@@ -105,8 +105,8 @@ fn players<'r>(
     requires { IsJob job.now.plan job.now.owns.items parts.now }
 {
     let mut players = Vec::new(alloc);
-    for party in 0..job.plan.parties() {
-        let seat = Seat::new(alloc, job, parts, party)?;
+    for at in 0..parts.len() {
+        let seat = Seat::new(alloc, &job.plan, &job.owns[at], &parts[at])?;
         let tasks = tasks(alloc, job.plan.gates())?;
         players.push(Player { seat, tasks })?;
     }

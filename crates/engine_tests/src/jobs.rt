@@ -1,13 +1,10 @@
 //! Runs of circuits that are given as text.
 
-ghost use Rattle.std.specs.Prelude.{◌≡◌, ◌≤◌, ℕ, length, slice_get, Some, None, IfOk, IfSome};
+ghost use Rattle.std.specs.Prelude.{◌≤◌, length, IfSome};
 ghost use Rattle.mot_base.specs.Limits.{most_file_bytes, least_parties, most_parties};
 ghost use Rattle.circuit_tables.specs.Table.{AreNamedApart};
-ghost use Rattle.circuit_tables.specs.Values.{HaveWidths};
-ghost use Rattle.joint_run.specs.declared.own.Own.{Own};
 ghost use Rattle.local_run.specs.Job.{IsJob};
 
-use crate::conditions::is_job;
 use bristol_reader::{Bristol, read_bristol};
 use circuit_values::{InputTable, ValuesError, read_values};
 use dealer_files::{DealerPart, read_dealer};
@@ -172,22 +169,16 @@ fn ready_plan(
 {
     let parts = parts_of(alloc, plan.parties(), parts);
     match (job_of(alloc, plan, inputs, values, place), parts) {
-        (Some(job), Some(parts)) => ready_job(job, parts, inputs),
+        (Some(job), Some(parts)) => ready_job(job, parts),
         _ => None,
     }
 }
 
-/// The same of a run whose values are those of these inputs.
-fn ready_job(
-    job: LocalJob,
-    parts: Vec<DealerPart>,
-    inputs: &InputTable,
-) -> Option<(LocalJob, Vec<DealerPart>)>
-    requires { (p : ℕ) (own : Own) →
-        slice_get job.owns.items p ≡ Some own → HaveWidths None inputs.now own.inputs }
+/// The same of a run and parts, if they have all that its plan asks for.
+fn ready_job(job: LocalJob, parts: Vec<DealerPart>) -> Option<(LocalJob, Vec<DealerPart>)>
     ensures { IfSome result (λ made. IsJob made.0.plan made.0.owns.items made.1.items) }
 {
-    if is_job(&job, &parts, inputs) {
+    if job.is_job(&parts) {
         Some((job, parts))
     } else {
         None
@@ -203,8 +194,6 @@ fn job_of(
     place: Place,
 ) -> Option<LocalJob>
     requires { AreNamedApart inputs.now }
-    ensures { IfSome result (λ job. (p : ℕ) (own : Own) →
-        slice_get job.owns.items p ≡ Some own → HaveWidths None inputs.now own.inputs) }
 {
     if values.len() > MAX_FILE_LENGTH {
         return None;
@@ -225,8 +214,6 @@ fn owns_of(
 ) -> Result<Vec<Own>, ValuesError>
     requires apart { AreNamedApart inputs.now }
     requires size { length values.now ≤ most_file_bytes }
-    ensures { IfOk result (λ owns. (p : ℕ) (own : Own) →
-        slice_get owns.items p ≡ Some own → HaveWidths None inputs.now own.inputs) }
 {
     let mut owns = Vec::new(alloc);
     for party in 0..parties {
@@ -246,7 +233,6 @@ fn own_of(
 ) -> Result<Own, ValuesError>
     requires apart { AreNamedApart inputs.now }
     requires size { length values.now ≤ most_file_bytes }
-    ensures { IfOk result (λ own. HaveWidths None inputs.now own.inputs) }
 {
     let inputs = read_values(alloc, values, inputs, None)?;
     Ok(Own {

@@ -4,8 +4,6 @@
 #[cfg(test)]
 mod by_hand;
 #[cfg(test)]
-mod conditions;
-#[cfg(test)]
 mod jobs;
 #[cfg(test)]
 mod seat;

@@ -1,15 +1,11 @@
 //! A party of a run that is handed over payload by payload.
 
-ghost use Rattle.std.specs.Prelude.{◌<◌, ℕ, length, IfOk};
-ghost use Rattle.gate_tasks.specs.Stage.{Serves};
+ghost use Rattle.std.specs.Prelude.{ℕ, IfOk};
 ghost use Rattle.gate_tasks.specs.Task.{ExpectsAll};
-ghost use Rattle.local_run.specs.Job.{IsJob};
 
-use crate::conditions::hold_types;
 use dealer_files::DealerPart;
 use gate_plan::Plan;
-use gate_tasks::{Env, GateTask, Out, Outs, Step, Value, Wires};
-use local_engine::LocalJob;
+use gate_tasks::{Env, GateTask, Out, Outs, Own, StageEnv, Step, Value, Wires};
 use message_demux::{Delivered, Inbox};
 use mot_base::Party;
 use std::alloc::Global;
@@ -20,45 +16,39 @@ use std::test::Fail;
 /// A party with its values so far and what came to it.
 #[derive(Drop)]
 pub(crate) struct Seat<'r> {
-    job: &'r LocalJob,
-    parts: &'r [DealerPart],
-    me: u8,
+    plan: &'r Plan,
+    own: &'r Own,
+    part: &'r DealerPart,
     wires: Wires<Value>,
     inbox: Inbox,
 }
 
 impl<'r> Model for Seat<'r> {
-    ghost use Rattle.std.specs.Prelude.{◌≡◌, ◌<◌, ℕ, length};
+    ghost use Rattle.std.specs.Prelude.{◌≡◌, ℕ, length};
     ghost use Rattle.gate_tasks.specs.Task.{ExpectsAll};
-    ghost use Rattle.local_run.specs.Job.{IsJob};
 
     ghost Value = { ℕ };
 
-    ghost view = { λ s. s.me };
+    ghost view = { λ s. s.own.now.me.0 };
 
-    ghost invariant = { λ s. IsJob s.job.now.plan s.job.now.owns.items s.parts.now
-        × (s.me < s.job.now.plan.parties)
-        × (length s.wires ≡ length s.job.now.plan.gates)
-        × ((g : ℕ) → ExpectsAll s.job.now.plan s.me g s.inbox) };
+    ghost invariant = { λ s. (length s.wires ≡ length s.plan.now.gates)
+        × ((g : ℕ) → ExpectsAll s.plan.now s.own.now.me.0 g s.inbox) };
 }
 
 impl<'r> Seat<'r> {
     /// A party that has no value yet, and to which nothing came.
     pub(crate) fn new(
         alloc: Global,
-        job: &'r LocalJob,
-        parts: &'r [DealerPart],
-        me: u8,
-    ) -> Result<Seat<'r>, Fail>
-        requires job { IsJob job.now.plan job.now.owns.items parts.now }
-        requires me { me < job.now.plan.parties }
-    {
-        let inbox = inbox_of(alloc, &job.plan, Party(me))?;
-        let wires = Wires::new(alloc, job.plan.gates())?;
+        plan: &'r Plan,
+        own: &'r Own,
+        part: &'r DealerPart,
+    ) -> Result<Seat<'r>, Fail> {
+        let inbox = inbox_of(alloc, plan, own.me)?;
+        let wires = Wires::new(alloc, plan.gates())?;
         Ok(Seat {
-            job,
-            parts,
-            me,
+            plan,
+            own,
+            part,
             wires,
             inbox,
         })
@@ -66,7 +56,7 @@ impl<'r> Seat<'r> {
 
     /// Which party it is.
     pub(crate) fn party(&self) -> Party {
-        Party(self.me)
+        self.own.me
     }
 
     /// The value of a gate, if there is one yet.
@@ -97,12 +87,10 @@ impl<'r> Seat<'r> {
         alloc: Global,
         task: &mut GateTask,
     ) -> Result<Outs, Fail> {
-        is_gate(rt, &self.job.plan, task.gate());
-        let me = usize::from(self.me);
         let env = Env {
-            plan: &self.job.plan,
-            own: &self.job.owns[me],
-            part: &self.parts[me],
+            plan: self.plan,
+            own: self.own,
+            part: self.part,
             wires: &self.wires,
             inbox: &self.inbox,
         };
@@ -118,8 +106,8 @@ impl<'r> Seat<'r> {
     }
 
     /// Keeps the value of a gate.
-    fn keep(&mut self, rt: &impl Abort, gate: u32, value: Value) {
-        assert!(rt; gate < self.job.plan.gates());
+    pub(crate) fn keep(&mut self, rt: &impl Abort, gate: u32, value: Value) {
+        assert!(rt; gate < self.plan.gates());
         assert!(rt; self.wires.get(gate).is_none());
         self.wires.set(gate, value);
     }
@@ -134,19 +122,17 @@ fn inbox_of(alloc: Global, plan: &Plan, me: Party) -> Result<Inbox, Fail>
     Ok(inbox)
 }
 
-/// That a plan has a gate of that number.
-fn is_gate(rt: &impl Abort, plan: &Plan, gate: u32)
-    ensures { gate < length plan.now.gates }
-{
-    assert!(rt; gate < plan.gates());
-}
-
 /// How a task answers whose conditions hold.
 fn polled(rt: &impl Abort, alloc: Global, task: &mut GateTask, env: &Env) -> Result<Step, Fail>
-    requires serves { Serves env.now.plan.now env.now.own.now env.now.part.now task.old.gate }
-    requires inbox { (g : ℕ) → ExpectsAll env.now.plan.now env.now.own.now.me.0 g env.now.inbox.now }
+    requires { (g : ℕ) → ExpectsAll env.now.plan.now env.now.own.now.me.0 g env.now.inbox.now }
 {
+    let place = StageEnv {
+        plan: env.plan,
+        own: env.own,
+        part: env.part,
+        gate: task.gate(),
+    };
+    assert!(rt; place.serves() && env.holds_types(task.gate()));
     assert!(rt; task.stage() < env.plan.stages(env.own.me, task.gate()));
-    assert!(rt; hold_types(env.plan, task.gate(), env.wires));
     Ok(task.poll(alloc, env)?)
 }

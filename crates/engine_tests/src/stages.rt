@@ -1,16 +1,16 @@
 //! What inputs and outputs of the product of two words send, stage by stage.
 
-ghost use Rattle.std.specs.Prelude.{◌<◌, length};
-ghost use Rattle.gate_tasks.specs.Stage.{AreOperands};
 ghost use Rattle.local_run.specs.Job.{IsJob};
 
-use crate::conditions::are_operands;
 use crate::jobs::{ALONE, Circuit, Parts, ready};
+use crate::seat::Seat;
 use dealer_files::DealerPart;
-use gate_tasks::{Out, StageEnv, StageOut, Value, run_stage};
+use gate_tasks::{GateTask, Out, Value};
 use local_engine::LocalJob;
-use mot_base::{NoMemory, Party};
-use std::alloc::{AllocError, Global};
+use mot_base::Party;
+use std::alloc::Global;
+use std::process::Abort;
+use std::test::Fail;
 
 /// The product of 6 and 7.
 static PRODUCT: Circuit = Circuit::Mixed(
@@ -60,38 +60,6 @@ static ROWS: [Row; 4] = [
     },
 ];
 
-/// The first stage of a gate at a party.
-fn first_stage(
-    alloc: Global,
-    job: &LocalJob,
-    parts: &[DealerPart],
-    party: usize,
-    gate: u32,
-    wires: &[Value],
-) -> Result<StageOut, NoMemory>
-    requires job { IsJob job.now.plan job.now.owns.items parts.now }
-    requires party { party < job.now.plan.parties }
-    requires gate { gate < length job.now.plan.gates }
-    requires wires { AreOperands job.now.plan gate wires.now }
-{
-    let env = StageEnv {
-        plan: &job.plan,
-        own: &job.owns[party],
-        part: &parts[party],
-        gate,
-    };
-    run_stage(alloc, &env, 0, wires, None, &[])
-}
-
-/// The operands of a row.
-fn wires_of(alloc: Global, row: &Row) -> Result<Vec<Value>, AllocError> {
-    let mut wires = Vec::new(alloc);
-    if let Some(share) = row.operand {
-        wires.push(Value::A(share))?;
-    }
-    Ok(wires)
-}
-
 fn is_hex(alloc: Global, bytes: &[u8], text: &str) -> bool {
     match hex::encode(alloc, bytes) {
         Ok(seen) => seen.as_str() == text,
@@ -114,7 +82,7 @@ fn is_sent(alloc: Global, row: &Row, outs: &[Out]) -> bool {
 }
 
 /// Whether a value is that share of a word, or there is none and none is wanted.
-fn is_value(value: &Option<Value>, wanted: Option<u64>) -> bool {
+fn is_value(value: Option<&Value>, wanted: Option<u64>) -> bool {
     match value {
         Some(Value::A(share)) => wanted == Some(*share),
         Some(_) => false,
@@ -122,50 +90,57 @@ fn is_value(value: &Option<Value>, wanted: Option<u64>) -> bool {
     }
 }
 
-/// Whether the stage of a row, with its operands, sends and gives what the row says.
-fn is_run(alloc: Global, job: &LocalJob, parts: &[DealerPart], row: &Row, wires: &[Value]) -> bool
-    requires { IsJob job.now.plan job.now.owns.items parts.now }
-{
-    if row.party >= job.plan.parties()
-        || row.gate >= job.plan.gates()
-        || !are_operands(&job.plan, row.gate, wires)
-    {
-        return false;
+/// Whether the first stage of a row's gate sends and gives what the row says, where the party has the operand.
+fn is_run(rt: &impl Abort, alloc: Global, seat: &mut Seat, row: &Row) -> Result<bool, Fail> {
+    if let Some(share) = row.operand {
+        seat.keep(rt, 2, Value::A(share));
     }
-    match first_stage(alloc, job, parts, usize::from(row.party), row.gate, wires) {
-        Ok(given) => {
-            is_sent(alloc, row, given.out.as_slice()) && is_value(&given.value, row.value)
-        }
-        Err(_) => false,
-    }
+    let mut task = GateTask::new(row.gate);
+    let outs = seat.poll(rt, alloc, &mut task)?;
+    Ok(is_sent(alloc, row, outs.as_slice()) && is_value(seat.value(row.gate), row.value))
 }
 
-fn is_row(alloc: Global, job: &LocalJob, parts: &[DealerPart], row: &Row) -> bool
+fn is_row(
+    rt: &impl Abort,
+    alloc: Global,
+    job: &LocalJob,
+    parts: &[DealerPart],
+    row: &Row,
+) -> Result<bool, Fail>
     requires { IsJob job.now.plan job.now.owns.items parts.now }
 {
-    match wires_of(alloc, row) {
-        Ok(wires) => is_run(alloc, job, parts, row, &wires),
-        Err(_) => false,
+    if row.party >= job.plan.parties() {
+        return Ok(false);
     }
+    let at = usize::from(row.party);
+    let mut seat = Seat::new(alloc, &job.plan, &job.owns[at], &parts[at])?;
+    is_run(rt, alloc, &mut seat, row)
 }
 
 /// The number of the first row whose stage goes another way.
-fn wrong_row(alloc: Global, job: &LocalJob, parts: &[DealerPart], rows: &[Row]) -> Option<usize>
+fn wrong_row(
+    rt: &impl Abort,
+    alloc: Global,
+    job: &LocalJob,
+    parts: &[DealerPart],
+    rows: &[Row],
+) -> Result<Option<usize>, Fail>
     requires { IsJob job.now.plan job.now.owns.items parts.now }
 {
     for (at, row) in rows.iter().enumerate() {
-        if !is_row(alloc, job, parts, row) {
-            return Some(at);
+        if !is_row(rt, alloc, job, parts, row)? {
+            return Ok(Some(at));
         }
     }
-    None
+    Ok(None)
 }
 
 #[test]
-fn inputs_and_outputs_send_their_shares(rt: HostRuntime) {
-    let wrong = match ready(rt.alloc(), &PRODUCT, VALUES, &Parts::Drawn(1, 0), ALONE) {
-        Some((job, parts)) => wrong_row(rt.alloc(), &job, &parts, &ROWS),
-        None => Some(0),
+fn inputs_and_outputs_send_their_shares(rt: HostRuntime) -> Result<(), Fail> {
+    let Some((job, parts)) = ready(rt.alloc(), &PRODUCT, VALUES, &Parts::Drawn(1, 0), ALONE) else {
+        panic!(rt; "no run");
     };
+    let wrong = wrong_row(&rt, rt.alloc(), &job, &parts, &ROWS)?;
     assert!(rt; wrong.is_none(), "row {wrong:?}");
+    Ok(())
 }

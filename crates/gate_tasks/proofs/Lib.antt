@@ -1,3 +1,4 @@
+pub mod Decided
 pub mod Hearing
 pub mod Operands
 pub mod Opened

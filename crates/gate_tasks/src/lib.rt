@@ -1,6 +1,7 @@
 //! The stages of a gate at a party, and a gate as a task that waits for what it lacks.
 #![tactic(auto)]
 
+mod deciding;
 mod finish;
 mod gather;
 mod heard;
@@ -16,6 +17,7 @@ mod task;
 mod value;
 mod wires;
 
+pub use deciding::serves_party;
 pub use gather::{held_values, kept_payloads};
 pub use joint_run::{
     Own, a_party_follows, every_gate_recombines, one_joint_run, payloads_have_their_lengths,

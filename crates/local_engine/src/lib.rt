@@ -9,6 +9,6 @@ pub use laws::{
     mixed_plans_take_inputs,
 };
 pub use local_run::{
-    LocalJob, PartyReport, jobs_of_seed_serve, local_pool, local_turns,
-    told_bits_are_those_of_outputs, turns_are_few,
+    LocalJob, PartyReport, edges_are_few, jobs_of_seed_serve, local_pool, local_turns,
+    local_turns_counted, told_bits_are_those_of_outputs, turns_are_few,
 };

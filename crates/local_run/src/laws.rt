@@ -1,6 +1,6 @@
 ghost use Rattle.local_run.specs.OneSeed.{HonestPartsServe, JobsOfSeedAreHonest, JobsOfSeedServe};
 ghost use Rattle.local_run.specs.Told.{ToldBitsAreThoseOfOutputs};
-ghost use Rattle.local_run.specs.Turns.{APartyHasFewItems, ItemsAreThoseOfParties, TurnsAreFew};
+ghost use Rattle.local_run.specs.Turns.{APartyHasFewItems, ItemsAreThoseOfParties, TurnsAreFew, TurnsAreWithinLimits, EdgesAreFew};
 
 /// The bits that the gates of a plan tell a party are those that its output gates tell that party, joined in order.
 pub fn told_bits_are_those_of_outputs()
@@ -21,4 +21,10 @@ pub fn turns_are_few()
     ensures party { APartyHasFewItems }
     ensures all { ItemsAreThoseOfParties }
     ensures few { TurnsAreFew }
+    ensures limits { TurnsAreWithinLimits }
+{}
+
+/// The edges of a run are fewer than a graph can have, so that no limit of a graph stops a run.
+pub fn edges_are_few()
+    ensures { EdgesAreFew }
 {}

@@ -2,6 +2,7 @@
 #![tactic(auto)]
 
 mod cargo;
+mod deciding;
 mod edges;
 mod graph;
 mod inputs;
@@ -18,5 +19,5 @@ mod work;
 
 pub use gate_tasks::PartyReport;
 pub use job::LocalJob;
-pub use laws::{jobs_of_seed_serve, told_bits_are_those_of_outputs, turns_are_few};
-pub use run::{local_pool, local_turns};
+pub use laws::{edges_are_few, jobs_of_seed_serve, told_bits_are_those_of_outputs, turns_are_few};
+pub use run::{local_pool, local_turns, local_turns_counted};

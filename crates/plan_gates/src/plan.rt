@@ -93,6 +93,14 @@ impl Plan {
     {
         self.offsets[gate as usize]
     }
+
+    /// How many correlations a gate needs.
+    pub fn needs_at(&self, gate: u32) -> Needs
+        requires { gate < length self.now.gates }
+        ensures { result ≡ needs_at self.now gate }
+    {
+        needs_at(&self.draft, gate)
+    }
 }
 
 /// What all gates before each one need, and what all gates need.

@@ -72,6 +72,9 @@ impl Plan {
         requires { gate < length self.now.gates }
         ensures { result ≡ awaits self.now party.0 gate stage }
     {
+        if stage == 0 {
+            return None;
+        }
         let mut reached = 0;
         for round in 0..self.rounds(gate) {
             if !self.hears(party, gate, round) {

@@ -7,6 +7,6 @@ mod shelf;
 mod slots;
 mod work;
 
-pub use run::run_turns;
+pub use run::{run_turns, run_turns_counted};
 pub use slots::Slots;
 pub use work::Work;

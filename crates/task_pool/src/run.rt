@@ -1,4 +1,4 @@
-ghost use Rattle.std.specs.Prelude.{◌≡◌, ◌<◌, IfOk};
+ghost use Rattle.std.specs.Prelude.{◌≡◌, ◌<◌, ◌≤◌, ◌+◌, IfOk, OnOk};
 ghost use Rattle.task_pool.specs.Meanings.{AreMeanings, HasNoOutside, ends_of};
 
 use crate::slots::Slots;
@@ -16,11 +16,11 @@ pub fn run_turns<W: Work>(alloc: Global, dag: &Dag, work: &W) -> Result<Vec<W::E
     requires inside { HasNoOutside dag.now }
     ensures { IfOk result (λ ends. AreMeanings (W.means work.now) (ends_of dag.now) ends.items) }
 {
-    run_counted::<W, Brand>(alloc, dag, work, Blank::new(1))
+    run_with::<W, Brand>(alloc, dag, work, Blank::new(1))
 }
 
 /// The same with a ledger for the steps.
-fn run_counted<W: Work, L: Ledger>(
+fn run_with<W: Work, L: Ledger>(
     alloc: Global,
     dag: &Dag,
     work: &W,
@@ -33,9 +33,25 @@ fn run_counted<W: Work, L: Ledger>(
     requires some { 0 < L.parts }
     ensures { IfOk result (λ ends. AreMeanings (W.means work.now) (ends_of dag.now) ends.items) }
 {
+    let mut steps = Steps::<L>::new(blank);
+    run_turns_counted(alloc, dag, work, &mut steps)
+}
+
+/// The same, and takes one step for each item.
+pub fn run_turns_counted<W: Work, L: Ledger>(
+    alloc: Global,
+    dag: &Dag,
+    work: &W,
+    steps: &mut Steps<L>,
+) -> Result<Vec<W::Edge>, NoMemory>
+    requires graph { W.graph work.now ≡ dag.now }
+    requires inside { HasNoOutside dag.now }
+    ensures ends { IfOk result (λ ends. AreMeanings (W.means work.now) (ends_of dag.now) ends.items) }
+    ensures steps { OnOk result (steps.new ≡ steps.old + dag.now.items) }
+    ensures most { steps.new ≤ steps.old + dag.now.items }
+{
     let mut slots = Slots::new(alloc, work, dag)?;
     let mut turns = Turns::new(alloc, dag)?;
-    let mut steps = Steps::<L>::new(blank);
-    turns.drain(&mut slots, &mut steps);
+    turns.drain(&mut slots, steps);
     slots.ends()
 }

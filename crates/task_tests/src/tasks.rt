@@ -3,11 +3,10 @@
 ghost use Rattle.std.specs.Prelude.{◌≡◌, ◌<◌, ℕ, IfSome};
 ghost use Rattle.gate_tasks.specs.Task.{ExpectsAll};
 
-use crate::conditions::{hold_types, serve};
 use circuit_values::{InputTable, read_values};
 use dealer_files::{DealerPart, read_dealer};
 use gate_plan::{Plan, lower_mixed};
-use gate_tasks::{Env, GateTask, Need, Own, Step, Value, Wires};
+use gate_tasks::{Env, GateTask, Need, Own, StageEnv, Step, Value, Wires};
 use message_demux::{Inbox, Slot};
 use mixed_circuit::read_mixed;
 use mot_base::{MAX_FILE_LENGTH, Party, Payload, Seed};
@@ -182,9 +181,14 @@ fn full_inbox(alloc: Global, plan: &Plan, me: Party, from: Party, payload: Paylo
 fn polled(alloc: Global, task: &mut GateTask, env: &Env) -> Option<Step>
     requires { (g : ℕ) → ExpectsAll env.now.plan.now env.now.own.now.me.0 g env.now.inbox.now }
 {
-    if !serve(env.plan, env.own, env.part, task.gate())
-        || !hold_types(env.plan, task.gate(), env.wires)
-        || task.gate() >= env.plan.gates()
+    let place = StageEnv {
+        plan: env.plan,
+        own: env.own,
+        part: env.part,
+        gate: task.gate(),
+    };
+    if !place.serves()
+        || !env.holds_types(task.gate())
         || task.stage() >= env.plan.stages(env.own.me, task.gate())
     {
         return None;

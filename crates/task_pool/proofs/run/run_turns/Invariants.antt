@@ -1,4 +1,4 @@
 use Rattle.task_pool.proofs.run.run_turns.Given as goal
 
-abbrev pub ghosts-run_counted : goal.ghosts-run_counted
-ghosts-run_counted g a = record { name = a.blank.name; parts = a.blank.parts }
+abbrev pub ghosts-run_with : goal.ghosts-run_with
+ghosts-run_with g a = record { name = a.blank.name; parts = a.blank.parts }

@@ -1,7 +1,7 @@
 use Rattle.std.proofs.Common.{◌≡◌, sym, ap, ◌∙◌, subst}
 use Rattle.turn_core.specs.Core.{Core, IsSettled}
 use Rattle.task_pool.proofs.Turning.{settled_at_start, all_turned}
-use Rattle.task_pool.proofs.run.run_counted.Goals as goal
+use Rattle.task_pool.proofs.run.run_turns_counted.Goals as goal
 
 pub drain-requires-clause-settled : goal.drain-requires-clause-settled
 drain-requires-clause-settled g c =

@@ -1,0 +1,15 @@
+use Rattle.std.proofs.Common.{ap, arith}
+use Rattle.share_types.specs.declared.needs.Needs.{Needs}
+use Rattle.share_types.specs.declared.needs.Kind.TheVariants.{Bit}
+use Rattle.gate_tasks.proofs.Decided.{refused}
+use Rattle.gate_tasks.proofs.deciding.has_records.Goals as goal
+
+pub returns-then-not-is_behind-2 : goal.returns-then-not-is_behind-2
+returns-then-not-is_behind-2 c =
+    let asked = ap (λ (n : Needs). n.bit) c.needs_at-asked.ensures in
+    let before = ap (λ (n : Needs). n.bit) c.offset-before.ensures in
+    let counts = ap (λ (n : Needs). n.bit) c.counts-counts.ensures in
+    refused _ c.is_behind-2.ensures c.if-not-is_behind-2.true
+    (λ all some.
+    let enough = all Bit (omega (arith, some, asked)) in
+    omega (arith, enough, asked, before, counts))
