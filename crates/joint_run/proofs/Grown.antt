@@ -1,11 +1,10 @@
 -- Lists that grow by one at a time, and what stands at a place of a list.
 use Rattle.std.proofs.Common.{ℕ, zero, suc, ◌≡◌, ◌<◌, ◌+◌, List, [], ◌∷◌, ◌++◌, length, map, Some, inl, inr, refl, sym, ◌∙◌, ap, subst, arith}
-use Rattle.std.specs.Prelude.{slice_get, slice_index, get_or}
-use Rattle.std.specs.Option.{unwrap_or}
+use Rattle.std.specs.Prelude.{slice_get, get_or}
 use Rattle.std.proofs.lemmas.List.{length-append}
 use Rattle.std.proofs.lemmas.Bool.{cases_lt}
 use Rattle.share_types.specs.Sums.{total, sum_to}
-use Rattle.mot_base.proofs.Lists.{last_at, before_at, same_some as some_is, index_at as got_index}
+use Rattle.mot_base.proofs.Lists.{last_at, before_at, same_some as some_is}
 
 pub got : {X : Type 0} (xs : List X) (k : ℕ) (x d : X) → slice_get xs k ≡ Some x → get_or xs k d ≡ x
 got [] k x d there = cc

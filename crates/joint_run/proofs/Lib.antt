@@ -5,6 +5,8 @@ pub mod Grown
 pub mod Triples
 pub mod Sharing
 pub mod Run
+pub mod Standing
+pub mod Dealing
 pub mod WordsRight
 pub mod VectorsRight
 pub mod Recombining

@@ -1,19 +1,28 @@
 -- In a joint run with honest records, the parties' values of each gate recombine to its plain number.
-use Rattle.std.proofs.Common.{ℕ, ◌≡◌, ◌<◌, List, length, Some, refl, sym, ◌∙◌, ap, subst}
-use Rattle.std.specs.Prelude.{slice_get}
+use Rattle.std.proofs.Common.{ℕ, ◌≡◌, ◌<◌, ◌%◌, ◌^◌, List, length, Some, refl, sym, ◌∙◌, ap, subst}
+use Rattle.std.specs.Prelude.{slice_get, slice_index}
 use Rattle.share_types.specs.declared.needs.Needs.{Needs}
-use Rattle.plan_gates.specs.Gate.{Kind, Gate, InA, ConstA, AddA, SubA, AddConstA, MulConstA, MulA, OutA, InB, ConstB, XorB, XorConstB, SliceB, JoinB, AndB, OutB}
-use Rattle.plan_gates.specs.Plan.{Gates, IsPlan}
-use Rattle.plan_gates.specs.Plain.{Outside, plain_before, number_at}
+use Rattle.share_types.specs.Sums.{sum_to, xor_to}
 use Rattle.share_types.specs.Wires.{includes}
-use Rattle.joint_run.specs.Party.{Own, Value, Hand, hand_at, party_value, value_at}
+use Rattle.share_types.proofs.Parties.{sum_to_same, xor_to_same}
+use Rattle.plan_gates.specs.Gate.{Kind, Gate, Given, Word, Vector, OutA, OutB, gives, width_at, word as word_use, vector as vector_use}
+use Rattle.plan_gates.specs.Gate as spec
+use Rattle.plan_gates.specs.Plan.{Gates, IsPlan, IsOperand}
+use Rattle.plan_gates.specs.Plain.{Outside, plain_before, number_at, number_of, seen_of}
+use Rattle.joint_run.specs.Party as party
+use Rattle.joint_run.specs.Party.{Own, Value, Hand, Rounds, wires_before, party_value, value_at, gate_value, word_share, vector_share, Told}
 use Rattle.joint_run.specs.Joint.{Payloads, column, IsJoint}
-use Rattle.joint_run.specs.Honest.{own_at, AreHonest, AreInputs, Recombine}
+use Rattle.joint_run.specs.Honest.{own_at, AreHonest, AreInputs, RecombineBy, Recombine}
 use Rattle.joint_run.specs.Laws.{EveryGateRecombines}
+use Rattle.joint_run.proofs.Causal.{strong}
 use Rattle.joint_run.proofs.Grown.{grown-get}
-use Rattle.joint_run.proofs.WordsRight.{right_at, told_word}
-use Rattle.joint_run.proofs.VectorsRight.{as_vector, told_vector}
-use Rattle.mot_base.proofs.Lists.{inside_of, same_some as some_is}
+use Rattle.joint_run.proofs.Sharing.{cut}
+use Rattle.joint_run.proofs.Run.{word_is, vector_is, sent, wide_is}
+use Rattle.joint_run.proofs.Standing.{hands, Hear, Stand}
+use Rattle.joint_run.proofs.Dealing.{triples_multiply, bit_triples_multiply}
+use Rattle.joint_run.proofs.WordsRight.{word_right, told_word}
+use Rattle.joint_run.proofs.VectorsRight.{vector_right, told_vector}
+use Rattle.mot_base.proofs.Lists.{index_at, inside_of, same_some as some_is}
 
 module _ (plan : Gates) (owns : List Own) (bases : Needs) (session : ℕ) (outside : Outside) (table : Payloads)
     (valid : IsPlan plan) (honest : AreHonest plan owns bases session) (inputs_are : AreInputs plan owns outside.inputs) (joint : IsJoint plan owns table) where
@@ -23,8 +32,14 @@ module _ (plan : Gates) (owns : List Own) (bases : Needs) (session : ℕ) (outsi
   abbrev own : ℕ → Own
   own p = own_at owns p
 
+  abbrev got : ℕ → ℕ → Rounds
+  got g p = column table p g
+
+  abbrev wires : ℕ → ℕ → List Value
+  wires g p = wires_before plan p (own p) (column table p) g
+
   abbrev at : ℕ → ℕ → Hand
-  at g p = hand_at plan p (own p) (column table p) g
+  at g = hands plan own (wires g) g
 
   abbrev value : ℕ → ℕ → Value
   value g p = party_value plan p (own p) (column table p) g
@@ -38,34 +53,96 @@ module _ (plan : Gates) (owns : List Own) (bases : Needs) (session : ℕ) (outsi
   plain_get : (g k : ℕ) → k < g → slice_get (plain g) k ≡ Some (numbered k)
   plain_get g k less = grown-get plain numbered refl (λ j. refl) g k less
 
-  by_kind : (g : ℕ) (kind : Kind) (width : ℕ) → slice_get plan.gates g ≡ Some (record { kind = kind; width = width }) →
-      Recombine (record { kind = kind; width = width }) n (value g) (numbered g)
-  by_kind g (InA owner k) width found = right_at plan owns bases session outside table valid honest inputs_are joint g (record { kind = InA owner k; width = width }) found refl
-  by_kind g (ConstA c) width found = right_at plan owns bases session outside table valid honest inputs_are joint g (record { kind = ConstA c; width = width }) found refl
-  by_kind g (AddA x y) width found = right_at plan owns bases session outside table valid honest inputs_are joint g (record { kind = AddA x y; width = width }) found refl
-  by_kind g (SubA x y) width found = right_at plan owns bases session outside table valid honest inputs_are joint g (record { kind = SubA x y; width = width }) found refl
-  by_kind g (AddConstA x c) width found = right_at plan owns bases session outside table valid honest inputs_are joint g (record { kind = AddConstA x c; width = width }) found refl
-  by_kind g (MulConstA x c) width found = right_at plan owns bases session outside table valid honest inputs_are joint g (record { kind = MulConstA x c; width = width }) found refl
-  by_kind g (MulA x y) width found = right_at plan owns bases session outside table valid honest inputs_are joint g (record { kind = MulA x y; width = width }) found refl
-  by_kind g (OutA x to) width found = λ p h.
-      ap (λ o. value_at o (at g p) (column table p g)) found
-      ∙ told_word plan owns bases session outside table valid honest inputs_are joint g x width p to h found (valid.each g (record { kind = OutA x to; width = width }) found) (includes to p) refl
-  by_kind g (InB owner k low) width found = as_vector plan owns bases session outside table valid honest inputs_are joint g (record { kind = InB owner k low; width = width }) found refl
-  by_kind g (ConstB c) width found = as_vector plan owns bases session outside table valid honest inputs_are joint g (record { kind = ConstB c; width = width }) found refl
-  by_kind g (XorB x y) width found = as_vector plan owns bases session outside table valid honest inputs_are joint g (record { kind = XorB x y; width = width }) found refl
-  by_kind g (XorConstB x c) width found = as_vector plan owns bases session outside table valid honest inputs_are joint g (record { kind = XorConstB x c; width = width }) found refl
-  by_kind g (SliceB x low) width found = as_vector plan owns bases session outside table valid honest inputs_are joint g (record { kind = SliceB x low; width = width }) found refl
-  by_kind g (JoinB x y) width found = as_vector plan owns bases session outside table valid honest inputs_are joint g (record { kind = JoinB x y; width = width }) found refl
-  by_kind g (AndB x y) width found = as_vector plan owns bases session outside table valid honest inputs_are joint g (record { kind = AndB x y; width = width }) found refl
-  by_kind g (OutB x to) width found = λ p h.
-      ap (λ o. value_at o (at g p) (column table p g)) found
-      ∙ told_vector plan owns bases session outside table valid honest inputs_are joint g x width p to h found (valid.each g (record { kind = OutB x to; width = width }) found) (includes to p) refl
+  plain_is : (g k : ℕ) → k < g → slice_index (plain g) k ≡ numbered k
+  plain_is g k less = index_at (plain g) k (numbered k) (plain_get g k less)
+
+  -- ---- what a kind of gate is shown
+
+  -- the values of a gate recombine to its number
+  abbrev Right : ℕ → Type 0
+  Right g = (gate : Gate) → slice_get plan.gates g ≡ Some gate → Recombine gate n (value g) (numbered g)
+
+  abbrev AreRight : ℕ → Type 0
+  AreRight g = (k : ℕ) → k < g → Right k
+
+  heard : (g : ℕ) (gate : Gate) → slice_get plan.gates g ≡ Some gate → Hear plan gate.kind (at g) (got g)
+  heard g gate found = record { sent = λ r p q a b apart. sent plan owns table honest.each joint g r p q gate a b apart found }
+
+  as_given : (given : Given) (g : ℕ) (gate : Gate) → gives gate.kind ≡ given → Recombine gate n (value g) (numbered g) →
+      RecombineBy given gate n (value g) (numbered g)
+  as_given given g gate is right = subst (λ t. RecombineBy t gate n (value g) (numbered g)) is right
+
+  word_operand : (g x : ℕ) → AreRight g → IsOperand plan.gates g (word_use x) →
+      sum_to n (λ p. party.word (at g p) x) % 2 ^ 64 ≡ slice_index (plain g) x % 2 ^ 64
+  word_operand g x right (less, gate, found, word) =
+      ap (λ s. s % 2 ^ 64) (sum_to_same n (λ p. party.word (at g p) x) (λ p. word_share (value x p)) (λ p h. word_is plan owns table honest.each joint g x p less))
+      ∙ (as_given Word x gate word (right x less gate found) ∙ ap (λ v. v % 2 ^ 64) (sym (plain_is g x less)))
+
+  vector_operand : (g x : ℕ) → AreRight g → IsOperand plan.gates g (vector_use x) →
+      (xor_to n (λ p. party.vector (at g p) x) ≡ slice_index (plain g) x) × ((p : ℕ) → p < n → party.vector (at g p) x < 2 ^ width_at plan.gates x)
+  vector_operand g x right (less, gate, found, vector) =
+      let (is, small) = as_given Vector x gate vector (right x less gate found) in
+      let same : (p : ℕ) → party.vector (at g p) x ≡ vector_share (value x p) = λ p. vector_is plan owns table honest.each joint g x p less in (
+        xor_to_same n (λ p. party.vector (at g p) x) (λ p. vector_share (value x p)) (λ p h. same p) ∙ (is ∙ sym (plain_is g x less)),
+        λ p h. subst (λ w. party.vector (at g p) x < 2 ^ w) (sym (wide_is plan x gate found)) (subst (λ s. s < 2 ^ gate.width) (sym (same p)) (small p h)),
+      )
+
+  stands : (g : ℕ) (gate : Gate) → AreRight g → slice_get plan.gates g ≡ Some gate → Stand plan gate.kind g outside.inputs (plain g) (at g)
+  stands g gate right found = record {
+    words = λ x is. word_operand g x right is;
+    vectors = λ x is. vector_operand g x right is;
+    brought = λ t takes. inputs_are g gate t found takes;
+    triples = λ some. triples_multiply plan owns bases session honest (wires g) g (inside_of plan.gates g gate found) some;
+    bit_triples = λ needed. bit_triples_multiply plan owns bases session honest (wires g) g (inside_of plan.gates g gate found) needed;
+  }
+
+  -- ---- all kinds
+
+  value_is : (g p : ℕ) (gate : Gate) → slice_get plan.gates g ≡ Some gate → value g p ≡ gate_value gate.kind (at g p) (got g p)
+  value_is g p gate found = ap (λ o. value_at o (at g p) (got g p)) found
+
+  word_case : (g : ℕ) (gate : Gate) → AreRight g → slice_get plan.gates g ≡ Some gate → gives gate.kind ≡ Word → RecombineBy Word gate n (value g) (numbered g)
+  word_case g gate right found word =
+      ap (λ s. s % 2 ^ 64) (sum_to_same n (λ p. word_share (value g p)) (λ p. word_share (gate_value gate.kind (at g p) (got g p))) (λ p h. ap word_share (value_is g p gate found)))
+      ∙ (word_right plan valid outside (plain g) g own (wires g) (got g) gate.kind gate.width found (heard g gate found) (stands g gate right found) word
+      ∙ sym (ap (λ o. number_at plan.gates outside (plain g) o % 2 ^ 64) found
+      ∙ cut (number_of gate.kind (seen_of plan.gates outside (plain g) gate.kind)) gate.width ((valid.each g gate found).word word)))
+
+  vector_case : (g : ℕ) (gate : Gate) → AreRight g → slice_get plan.gates g ≡ Some gate → gives gate.kind ≡ Vector → RecombineBy Vector gate n (value g) (numbered g)
+  vector_case g gate right found vector =
+      let (is, small) = vector_right plan valid outside (plain g) g own (wires g) (got g) gate.kind gate.width found (heard g gate found) (stands g gate right found) vector in (
+        xor_to_same n (λ p. vector_share (value g p)) (λ p. vector_share (gate_value gate.kind (at g p) (got g p))) (λ p h. ap vector_share (value_is g p gate found))
+            ∙ (is ∙ (ap (λ w. number_of gate.kind (seen_of plan.gates outside (plain g) gate.kind) % 2 ^ w) (wide_is plan g gate found)
+            ∙ sym (ap (number_at plan.gates outside (plain g)) found))),
+        λ p h. subst (λ w. vector_share (value g p) < 2 ^ w) (wide_is plan g gate found)
+            (subst (λ v. vector_share v < 2 ^ width_at plan.gates g) (sym (value_is g p gate found)) (small p h)),
+      )
+
+  told_case : (g : ℕ) (kind : Kind) (width : ℕ) → AreRight g → slice_get plan.gates g ≡ Some (record { kind = kind; width = width }) → gives kind ≡ spec.Told →
+      RecombineBy spec.Told (record { kind = kind; width = width }) n (value g) (numbered g)
+  told_case g (OutA x to) width right found told p a =
+      let gate : Gate = record { kind = OutA x to; width = width } in
+      value_is g p gate found
+      ∙ told_word plan valid outside (plain g) g own (wires g) (got g) x width p to a found (heard g gate found) (stands g gate right found) (includes to p) refl
+  told_case g (OutB x to) width right found told p a =
+      let gate : Gate = record { kind = OutB x to; width = width } in
+      value_is g p gate found
+      ∙ told_vector plan valid outside (plain g) g own (wires g) (got g) x width p to a found (heard g gate found) (stands g gate right found) (includes to p) refl
+  told_case g _ width right found told p a = cc
+
+  step : (g : ℕ) → AreRight g → Right g
+  step g right gate found = by (gives gate.kind) refl
+    where
+      by : (given : Given) → gives gate.kind ≡ given → Recombine gate n (value g) (numbered g)
+      by Word is = subst (λ t. RecombineBy t gate n (value g) (numbered g)) (sym is) (word_case g gate right found is)
+      by Vector is = subst (λ t. RecombineBy t gate n (value g) (numbered g)) (sym is) (vector_case g gate right found is)
+      by spec.Told is = subst (λ t. RecombineBy t gate n (value g) (numbered g)) (sym is) (told_case g gate.kind gate.width right found is)
 
   whole : (g : ℕ) (here : Gate) (x : ℕ) → slice_get plan.gates g ≡ Some here →
       slice_get (plain (length plan.gates)) g ≡ Some x → Recombine here n (value g) x
   whole g here x found there =
       let is : numbered g ≡ x = some_is (numbered g) x (sym (plain_get (length plan.gates) g (inside_of plan.gates g here found)) ∙ there) in
-      subst (λ v. Recombine here n (value g) v) is (by_kind g here.kind here.width found)
+      subst (λ v. Recombine here n (value g) v) is (strong Right step g here found)
 
 pub every_gate_recombines : EveryGateRecombines
 every_gate_recombines plan owns bases session outside table valid honest given joint = whole plan owns bases session outside table valid honest given joint

@@ -1,6 +1,6 @@
 -- Shares of words and of vectors, and payloads that are read back.
-use Rattle.std.proofs.Common.{ℕ, zero, suc, ◌≡◌, ◌<◌, ◌≤◌, ◌+◌, ◌*◌, ◌%◌, ◌^◌, Bool, true, false, cond, List, [], ◌∷◌, length, map, take, Some, refl, sym, ◌∙◌, ap, arith, length-take}
-use Rattle.std.specs.Prelude.{slice_get, get_or, bit_and, bit_xor}
+use Rattle.std.proofs.Common.{ℕ, zero, suc, ◌≡◌, ◌<◌, ◌≤◌, ◌+◌, ◌*◌, ◌%◌, ◌^◌, Bool, true, false, cond, List, [], ◌∷◌, length, map, take, refl, sym, ◌∙◌, ap, arith, length-take}
+use Rattle.std.specs.Prelude.{get_or, bit_and, bit_xor}
 use Rattle.std.proofs.lemmas.Nat.{and_le_l, pow-add, xor_comm}
 use Rattle.std.proofs.lemmas.Bool.{ne_eqb, lt-ltb}
 use Rattle.share_types.specs.Sums.{word_difference, part_of_public, sum_to, xor_to, xor_total}
@@ -14,7 +14,6 @@ use Rattle.dealer_files.specs.Records.{vector_of}
 use Rattle.dealer_files.proofs.Vectors.{vector-small}
 use Rattle.joint_run.proofs.Bytes.{payloads_read_back}
 use Rattle.arithmetic_gmw.proofs.Sums.{sum_public}
-use Rattle.mot_base.proofs.Lists.{inside_of as found_inside}
 
 pub two : (n p q : ℕ) → p < n → q < n → (p ≡ q → ⊥) → are_two n p q ≡ true
 two n p q a b apart = rw (lt-ltb p n a, lt-ltb q n b, ne_eqb p q apart) refl

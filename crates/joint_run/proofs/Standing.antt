@@ -1,0 +1,35 @@
+-- What a kind of gate is shown of a run of all parties: what each hears there, and that its operands recombine and its
+-- records are honest. How the payloads came about, what was dealt and which gates stand before it, it does not see.
+use Rattle.std.proofs.Common.{ℕ, ◌≡◌, ◌<◌, ◌*◌, ◌%◌, ◌^◌, List, Some}
+use Rattle.std.specs.Prelude.{slice_index, get_or, bit_and}
+use Rattle.share_types.specs.Sums.{sum_to, xor_to}
+use Rattle.plan_gates.specs.Gate.{Kind, width_at, word as word_use, vector as vector_use}
+use Rattle.plan_gates.specs.Plan.{Gates, IsOperand}
+use Rattle.plan_gates.specs.Needs.{needs_at}
+use Rattle.joint_run.specs.Party.{Own, Value, Hand, Rounds, hand, word, vector, input, triple, bits_of, gate_sends, before, silence}
+use Rattle.joint_run.specs.Honest.{Taken, taken_by}
+
+-- the parties at a gate, each with its own data and its values of the gates before
+abbrev pub hands : Gates → (ℕ → Own) → (ℕ → List Value) → ℕ → ℕ → Hand
+hands plan own wires g p = hand plan p (own p) g (wires p)
+
+-- what each party hears is what the others send it
+pub record Hear (plan : Gates) (kind : Kind) (at : ℕ → Hand) (got : ℕ → Rounds) : Type 0 where
+  pub sent : (r p q : ℕ) → p < plan.parties → q < plan.parties → (q ≡ p → ⊥) →
+      got p r q ≡ get_or (gate_sends kind (at q) (before r (got q))) r silence p
+
+-- operands recombine to their numbers, a word by sum and a vector by XOR, the input is the one that its owner brings, and
+-- the triples of all parties multiply
+pub record Stand (plan : Gates) (kind : Kind) (g : ℕ) (inputs plain : List ℕ) (at : ℕ → Hand) : Type 0 where
+  pub words : (x : ℕ) → IsOperand plan.gates g (word_use x) →
+      sum_to plan.parties (λ p. word (at p) x) % 2 ^ 64 ≡ slice_index plain x % 2 ^ 64
+  pub vectors : (x : ℕ) → IsOperand plan.gates g (vector_use x) →
+      (xor_to plan.parties (λ p. vector (at p) x) ≡ slice_index plain x)
+      × ((p : ℕ) → p < plan.parties → vector (at p) x < 2 ^ width_at plan.gates x)
+  pub brought : (t : Taken) → taken_by kind ≡ Some t → slice_index inputs t.k ≡ input (at t.party) t.k
+  pub triples : 0 < (needs_at plan g).mult →
+      sum_to plan.parties (λ p. (triple (at p)).c) % 2 ^ 64
+      ≡ (sum_to plan.parties (λ p. (triple (at p)).a) * sum_to plan.parties (λ p. (triple (at p)).b)) % 2 ^ 64
+  pub bit_triples : (needs_at plan g).bit ≡ width_at plan.gates g →
+      xor_to plan.parties (λ p. bits_of (at p) 2)
+      ≡ bit_and (xor_to plan.parties (λ p. bits_of (at p) 0)) (xor_to plan.parties (λ p. bits_of (at p) 1))
