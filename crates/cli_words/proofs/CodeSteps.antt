@@ -1,36 +1,30 @@
 -- What the steps of the code are to the functions that they compute.
-use Rattle.std.proofs.Common.{◌≡◌, ◌≢◌, ℕ, zero, suc, ◌<◌, ◌≤◌, ◌+◌, ◌==◌, Bool, true, false, List, [], ◌∷◌, ◌++◌, length, map, drop, take, get_or, Some, None, Option, option_map, option_and_then, is_some, refl, sym, ◌∙◌, ap, ap₂, subst, inl, inr, arith, Bor, String, string_bytes}
+use Rattle.std.proofs.Common.{◌≡◌, ◌≢◌, ℕ, ◌<◌, ◌≤◌, ◌+◌, ◌==◌, Bool, true, false, List, [], ◌∷◌, ◌++◌, length, drop, take, get_or, Some, None, Option, option_map, option_and_then, refl, sym, ◌∙◌, ap, ap₂, subst, inl, inr, arith, Bor, String, string_bytes}
 use Rattle.std.specs.Prelude.{if◌then◌else◌, ◌⊎◌, bytes_eq, codes}
-use Rattle.std.specs.Option.{option_copied, option_or, MatchOption}
+use Rattle.std.specs.Option.{option_copied, MatchOption}
 use Rattle.std.specs.Str.Pattern.{FindsTextPrefix, StripsPrefix}
 use Rattle.std.proofs.lemmas.List.{append_assoc, append-nil, map-append, drop_more, take_more, drop_all}
 use Rattle.std.proofs.lemmas.Bool.Decides.{nat_tests}
-use Rattle.std.specs.Prelude.{◌&&◌, not, nat_le, ◌^◌, Result, Ok, Err}
-use Rattle.std.specs.Result.{result_ok, OkIff}
-use Rattle.std.specs.Char.{is_digit, digit_value}
-use Rattle.std.specs.List.{list_all}
-use Rattle.std.specs.Str.Parse.{digits_value, AllDigits, ParsesUnsigned, IsNumeral}
-use Rattle.std.proofs.lemmas.Str.Parse.{without_leading_plus_none}
-use Rattle.cli_words.specs.Table.{Text, is_empty, are_digits, number_in}
+use Rattle.text_lines.specs.Text.{Text, is_empty}
+use Rattle.cli_words.specs.Table.{options}
 use Rattle.cli_words.specs.Grammar.{Piece, option, word, words_of, texts}
-use Rattle.cli_words.specs.Pass.{rest_after, rest_spelling, is_plain, option_step, first_step, Next, step, begun, at_end, cut, referents, piece_of, pieces_of}
+use Rattle.cli_words.specs.Pass.{rest_after, rest_spelling, is_plain, options_step, first_step, is_allowed, Next, step, begun, at_end, cut, referents, piece_of, pieces_of}
 use Rattle.cli_words.specs.declared.pass.Piece as declared
 use Rattle.cli_words.specs.declared.pass.State.{State}
-use Rattle.cli_words.proofs.Spelling.{after_is, map_or}
+use Rattle.cli_words.proofs.Spelling.{after_is}
 use Rattle.cli_words.specs.declared.table.OptionName.{OptionName}
-use Rattle.cli_words.specs.declared.table.OptionName.TheVariants.{As, Parties, Dealer}
 use Rattle.cli_words.specs.declared.pass.State.TheVariants.{Between, Awaiting, Behind}
 use Rattle.cli_words.proofs.Cutting.{cut_end, cut_step}
-use Rattle.mot_base.proofs.Lists.{both_true}
 
-abbrev pub as_list : Option Text → List Text
-as_list None = []
-as_list (Some v) = v ∷ []
+-- a value, where one was found
+abbrev pub shown : Bool → List Text
+shown true = [] ∷ []
+shown false = []
 
--- the values that were found, and those to come, are all
-pub record IsGivenSoFar (takes : Bool) (all : List Text) (found : Option Text) (more : List Text) : Type 0 where
-  pub are : all ≡ as_list found ++ more
-  pub taken : is_some found ≡ true → takes ≡ true
+-- what was found so far, and the values to come: whether all are allowed hangs on these alone
+pub record IsAllowedSoFar (takes : Bool) (all : List Text) (found : Bool) (more : List Text) : Type 0 where
+  pub is : is_allowed takes all ≡ is_allowed takes (shown found ++ more)
+  pub taken : found ≡ true → takes ≡ true
 
 -- What is stripped of a word.
 
@@ -72,16 +66,8 @@ pub unstripped : (w : Text) (r : Option (Bor Text))
 unstripped w None h n e = no_value w e h
 unstripped w (Some x) h n e = cc
 
-pub one_of : {X Y : Type 0} (f : X → Y) (a b d ab r : Option X) (fa fb fd : Option Y) → ab ≡ option_or a b
-    → r ≡ option_or ab d → option_map f a ≡ fa → option_map f b ≡ fb → option_map f d ≡ fd
-    → option_map f r ≡ option_or (option_or fa fb) fd
-one_of f a b d ab r fa fb fd e k ea eb ed =
-    ap (option_map f) k ∙ map_or f ab d
-    ∙ ap₂ option_or (ap (option_map f) e ∙ map_or f a b ∙ ap₂ option_or ea eb) ed
-
 pub other_word : (w : Text) (r : Option Next) → is_plain w ≡ false → bytes_eq w (codes "--") ≡ false
-    → r ≡ option_or (option_or (option_step As w) (option_step Parties w)) (option_step Dealer w)
-    → r ≡ first_step w
+    → r ≡ options_step options w → r ≡ first_step w
 other_word w r e k h = rw (e, k) h
 
 -- The pass.
@@ -161,80 +147,3 @@ pushed_word first old new s more at d within h e k =
     ap referents (take_more more at d within) ∙ map-append (λ (x : Bor Text). x.now) (take at more) (get_or more at d ∷ []) in
     one ∙ ap₂ (λ (x y : List Text). x ++ y) h (ap (λ (x : Text). x ∷ []) k) ∙ append_assoc first _ _
     ∙ ap (λ (x : List Text). first ++ x) (sym two)
-
-pub kept_value : (f : Text → Option Text) (old new : List (Bor Text)) (w : Bor Text) (ids : List (Bor Text)) (at : ℕ) (d : Bor Text)
-    → at < length ids → map (λ (x : Text). Some x) (referents old) ≡ map f (referents (take at ids)) → new ≡ old ++ w ∷ []
-    → f (get_or ids at d).now ≡ Some w.now → map (λ (x : Text). Some x) (referents new) ≡ map f (referents (take (at + 1) ids))
-kept_value f old new w ids at d within h e k =
-    let one : map (λ (x : Text). Some x) (referents new) ≡ map (λ (x : Text). Some x) (referents old) ++ (Some w.now ∷ []) =
-    ap (λ (x : List (Bor Text)). map (λ (y : Text). Some y) (referents x)) e
-    ∙ ap (map (λ (x : Text). Some x)) (map-append (λ (x : Bor Text). x.now) old (w ∷ [])) ∙ map-append (λ (x : Text). Some x) (referents old) (w.now ∷ []) in
-    let two : map f (referents (take (at + 1) ids)) ≡ map f (referents (take at ids)) ++ (f (get_or ids at d).now ∷ []) =
-    ap (λ (x : List (Bor Text)). map f (referents x)) (take_more ids at d within)
-    ∙ ap (map f) (map-append (λ (x : Bor Text). x.now) (take at ids) (get_or ids at d ∷ [])) ∙ map-append f (referents (take at ids)) ((get_or ids at d).now ∷ []) in
-    one ∙ ap₂ (λ (x y : List (Option Text)). x ++ y) h (ap (λ (x : Option Text). x ∷ []) (sym k)) ∙ sym two
-
-pub all_there : (f : Text → Option Text) (ids : List (Bor Text)) (words : List Text) (at : ℕ) (d : Bor Text)
-    → map f (referents ids) ≡ map (λ (x : Text). Some x) words → at < length ids → f (get_or ids at d).now ≡ None → ⊥
-all_there f [] words at d h within n = let bad : at < 0 = within in absurd (omega arith)
-all_there f (i ∷ ids) [] at d h within n = cc
-all_there f (i ∷ ids) (w ∷ words) zero d h within n = let e : f i.now ≡ Some w = cc in cc
-all_there f (i ∷ ids) (w ∷ words) (suc at) d h within n =
-    let rest : map f (referents ids) ≡ map (λ (x : Text). Some x) words = cc in
-    all_there f ids words at d rest (omega arith) n
-
--- Numbers.
-
-digit_below : (c : ℕ) → is_digit c 10 ≡ true → digit_value c < 10
-digit_below c h = grind (arith, nat_tests)
-
-all_digits : (text : Text) → list_all (λ d. is_digit d 10) text ≡ true → AllDigits 10 text
-all_digits [] h = tt
-all_digits (c ∷ cs) h = let parts = both_true (is_digit c 10) _ h in (digit_below c parts.0, all_digits cs parts.1)
-
-no_plus : (text : Text) → AllDigits 10 text → get_or text 0 0 ≢ 43
-no_plus [] h = λ e. omega arith
-no_plus (c ∷ cs) h = λ e. let P : ℕ → Type 0 = λ d. digit_value d < 10 in let big : digit_value 43 < 10 = subst P e h.0 in omega arith
-
-some_digit : (text : Text) → not (is_empty text) ≡ true → 0 < length text
-some_digit [] h = cc
-some_digit (c ∷ cs) h = omega arith
-
-numeral : (text : Text) → are_digits text ≡ true → IsNumeral 10 text
-numeral text h =
-    let parts = both_true (not (is_empty text)) (list_all (λ d. is_digit d 10) text) h in
-    (some_digit text parts.0, all_digits text parts.1)
-
-within : (a : Bool) (v most : ℕ) → a ≡ true → v ≤ most → (if a && (nat_le 0 v && nat_le v most) then Some v else None) ≡ Some v
-within true v most e h = go (nat_le 0 v && nat_le v most) (grind (arith, nat_tests))
-  where
-    go : (b : Bool) → b ≡ true → (if b then Some v else None) ≡ Some v
-    go true h = refl
-    go false h = cc
-within false v most e h = cc
-
-beyond : (a : Bool) (v most : ℕ) → most < v → (if a && (nat_le 0 v && nat_le v most) then Some v else None) ≡ None
-beyond true v most h = go (nat_le 0 v && nat_le v most) (grind (arith, nat_tests))
-  where
-    go : (b : Bool) → b ≡ false → (if b then Some v else None) ≡ None
-    go true h = cc
-    go false h = refl
-beyond false v most h = refl
-
-read_digits : (text : Text) {E : Type 0} (r : Result ℕ E) → are_digits text ≡ true
-    → OkIff r (IsNumeral 10 text × (digits_value 10 text < 2 ^ 32)) (digits_value 10 text)
-    → result_ok r ≡ number_in 0 4294967295 text
-read_digits text (Ok x) h ((n, small), e) = ap (λ (v : ℕ). Some v) e ∙ sym (within (are_digits text) (digits_value 10 text) 4294967295 h (omega arith))
-read_digits text (Err e) h big =
-    let large : 4294967295 < digits_value 10 text = below (digits_value 10 text) (λ small. big (numeral text h, small)) in
-    sym (beyond (are_digits text) (digits_value 10 text) 4294967295 large)
-  where
-    below : (v : ℕ) → ¬ (v < 2 ^ 32) → 4294967295 < v
-    below v h = omega arith
-
-pub read_number : (text : Text) {E : Type 0} (r : Result ℕ E) → are_digits text ≡ true → ParsesUnsigned 32 10 text r
-    → result_ok r ≡ number_in 0 4294967295 text
-read_number text {E} r h parses =
-    let plain = without_leading_plus_none text (no_plus text (numeral text h).1) in
-    let P : Text → Type 0 = λ t. OkIff r (IsNumeral 10 t × (digits_value 10 t < 2 ^ 32)) (digits_value 10 t) in
-    read_digits text r h (subst P plain parses)

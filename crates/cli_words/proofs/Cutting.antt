@@ -2,14 +2,15 @@
 use Rattle.std.proofs.Common.{◌≡◌, ℕ, Bool, true, false, List, [], ◌∷◌, ◌++◌, map, codes, Some, None, option_map, option_and_then, refl, sym, ◌∙◌, ap, inl, inr, subst}
 use Rattle.std.specs.Prelude.{if◌then◌else◌}
 use Rattle.std.proofs.lemmas.List.{append_assoc, append-nil}
-use Rattle.cli_words.specs.Table.{Text, flag}
+use Rattle.text_lines.specs.Text.{Text}
+use Rattle.cli_words.specs.Table.{flag}
 use Rattle.cli_words.specs.Grammar.{IsPlain, Piece, option, word, Spells, SpellAll, NoneEmpty, IsSpelt, whole, divided}
 use Rattle.cli_words.specs.Pass.{is_plain, Next, step, begun, at_end, cut}
 use Rattle.cli_words.specs.declared.table.OptionName.{OptionName}
 use Rattle.cli_words.specs.declared.pass.State.{State}
 use Rattle.cli_words.specs.declared.pass.State.TheVariants.{Between, Awaiting, Behind}
 use Rattle.cli_words.proofs.Steps.{mapped, chained}
-use Rattle.cli_words.proofs.Spelling.{First, lone, divider, flagged, joined, first_is, not_empty, plain_from, plain_to, step_plain, step_divider, step_flag, step_joined}
+use Rattle.cli_words.proofs.Spelling.{First, lone, divider, flagged, joined, first_is, plain_from, plain_to, step_plain, step_divider, step_flag, step_joined}
 
 pub cut_end : (s : State) → cut s [] ≡ at_end s
 unfolding cut
@@ -69,7 +70,7 @@ moved_first w words n ps (joined o v some d e) h =
 
 behind_step : (c : ℕ) (cs : Text)
     → step Behind (c ∷ cs) ≡ Some (record { piece = Some (word (c ∷ cs)); state = Behind })
-behind_step c cs = rw (not_empty c cs) refl
+behind_step c cs = refl
 
 moved : (s : State) (w : Text) (words : List Text) (n : Next) (ps : List Piece) → step s w ≡ Some n
     → Meant n.state words ps → Meant s (w ∷ words) (begun n.piece ps)

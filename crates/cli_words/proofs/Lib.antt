@@ -1,8 +1,10 @@
-pub mod Callers
 mod Clap
 mod CodeSteps
 mod Cutting
-mod Meaning
+mod Filling
+mod Numbers
+mod Options
 pub mod Reading
+mod Says
 mod Spelling
 mod Steps

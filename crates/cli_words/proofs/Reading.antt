@@ -1,44 +1,37 @@
 -- The reading gives exactly the request that the words ask for.
-use Rattle.std.proofs.Common.{◌≡◌, ◌==◌, Bool, true, false, List, [], ◌∷◌, length, Some, None, Option, option_and_then, refl, sym, ◌∙◌, ap, subst, inl, inr}
-use Rattle.std.specs.Prelude.{◌⊎◌, Result, Ok, Err, IfOk, if◌then◌else◌, bytes_eq}
-use Rattle.std.specs.List.{list_any}
+use Rattle.std.proofs.Common.{◌≡◌, Bool, true, false, List, [], ◌∷◌, Some, None, Option, cond, refl, sym, ◌∙◌, ap, subst, inl, inr}
+use Rattle.std.specs.Prelude.{◌⊎◌, Result, Ok, Err, IfOk, bytes_eq, find, is_some, unwrap_or}
+use Rattle.std.specs.List.{list_all}
 use Rattle.std.proofs.lemmas.Slice.Eq.{bytes_eq-Decides}
-use Rattle.std.proofs.lemmas.Bool.Decides.{nat_tests}
-use Rattle.std.proofs.Common.{arith}
-use Rattle.cli_words.specs.Table.{Text, Kind, row, option_kind, Meaning, meaning_of, is_same}
-use Rattle.cli_words.specs.Request.{Request, command_of, option_of, request_of}
-use Rattle.cli_words.specs.Grammar.{Piece, words_of, given, is_offered, takes_option, meanings, IsGiven, absent, once, Asks, AsksAs}
-use Rattle.cli_words.specs.Pass.{LineTexts, command_named, cut, allowed, value_for, counted, line_for, request_for, line_request, reading, IsLine}
-use Rattle.cli_words.specs.Canon.{value_in, Fits, canonical}
+use Rattle.mot_base.proofs.Lists.{same_some, mapped_some, cons_same}
+use Rattle.text_lines.specs.Text.{Text}
+use Rattle.cli_words.specs.Table.{Meaning, row, option_row, options, commands, kinds, command_named}
+use Rattle.cli_words.specs.Request.{Request, Said, command_of, plain, needs, deal, local, request_said, request_of}
+use Rattle.cli_words.specs.Grammar.{Piece, words_of, is_offered, takes_option, meanings, IsGiven, absent, once, Say, Asks, AsksAs}
+use Rattle.cli_words.specs.Pass.{cut, is_taken, value_given, said_by, Means, IsLine}
 use Rattle.cli_words.specs.declared.table.Command.{Command}
 use Rattle.cli_words.specs.declared.table.Command.TheVariants.{Plain, Needs, Deal, Local}
 use Rattle.cli_words.specs.declared.table.OptionName.{OptionName}
-use Rattle.cli_words.specs.declared.table.OptionName.TheVariants.{As, Parties, Dealer}
 use Rattle.cli_words.specs.declared.table.Offer.{Offer}
 use Rattle.cli_words.specs.declared.pass.State.TheVariants.{Between}
 use Rattle.cli_words.specs.declared.read.WordsError.{WordsError}
 use Rattle.cli_words.specs.declared.words.CommandWords.{CommandWords}
-use Rattle.cli_words.proofs.Steps.{mapped, chained}
-use Rattle.cli_words.proofs.Cutting.{spelt_from, spelt_to}
-use Rattle.cli_words.proofs.Meaning.{Means, said, means_from, means_to}
+use Rattle.cli_words.proofs.Options.{listed}
+use Rattle.cli_words.proofs.Says.{line_says, say_line, means_once, one_line, all_of, each_of}
 
 -- The name.
 
-pub named_from : (name : Text) (c : Command) → command_named name ≡ Some c → name ≡ (row c).text
-named_from name c h = go (bytes_eq name (row Plain).text) (bytes_eq-Decides name (row Plain).text).0
-    (bytes_eq name (row Needs).text) (bytes_eq-Decides name (row Needs).text).0
-    (bytes_eq name (row Deal).text) (bytes_eq-Decides name (row Deal).text).0
-    (bytes_eq name (row Local).text) (bytes_eq-Decides name (row Local).text).0 h
+found_passes : {X : Type 0} (p : X → Bool) (xs : List X) (x : X) → find p xs ≡ Some x → p x ≡ true
+found_passes p [] x h = cc
+found_passes {X} p (y ∷ ys) x h = go (p y) refl (found_passes p ys x) h
   where
-    go : (p : Bool) → (p ≡ true → name ≡ (row Plain).text) → (n : Bool) → (n ≡ true → name ≡ (row Needs).text)
-        → (d : Bool) → (d ≡ true → name ≡ (row Deal).text) → (l : Bool) → (l ≡ true → name ≡ (row Local).text)
-        → (if p then Some Plain else if n then Some Needs else if d then Some Deal else if l then Some Local else None) ≡ Some c
-        → name ≡ (row c).text
-    go true p n ne d de l le h = let e : Plain ≡ c = cc in p refl ∙ ap (λ (x : Command). (row x).text) e
-    go false p true n d de l le h = let e : Needs ≡ c = cc in n refl ∙ ap (λ (x : Command). (row x).text) e
-    go false p false n true d l le h = let e : Deal ≡ c = cc in d refl ∙ ap (λ (x : Command). (row x).text) e
-    go false p false n false d true l h = let e : Local ≡ c = cc in l refl ∙ ap (λ (x : Command). (row x).text) e
-    go false p false n false d false l h = cc
+    go : (b : Bool) → p y ≡ b → (find p ys ≡ Some x → p x ≡ true) → cond b (Some y) (find p ys) ≡ Some x → p x ≡ true
+    go true is more h = ap p (sym (same_some y x h)) ∙ is
+    go false is more h = more h
+
+pub named_from : (name : Text) (c : Command) → command_named name ≡ Some c → name ≡ (row c).text
+named_from name c h =
+    sym ((bytes_eq-Decides (row c).text name).0 (found_passes (λ c. bytes_eq (row c).text name) commands c h))
 
 pub named_row : (c : Command) → command_named (row c).text ≡ Some c
 named_row Plain = refl
@@ -46,300 +39,139 @@ named_row Needs = refl
 named_row Deal = refl
 named_row Local = refl
 
--- The values of options.
+-- a name is the name of one command
+pub one_name : (a b : Command) → (row a).text ≡ (row b).text → a ≡ b
+one_name a b same = same_some a b (sym (named_row a) ∙ ap command_named same ∙ named_row b)
 
-pub given_from : (takes : Bool) (kind : Kind) (values : List Text) (o : Option Text) (m : Option Meaning)
-    → allowed takes values ≡ Some o → said kind o m → IsGiven takes kind values m
-given_from takes kind [] None m h s = absent refl s
-given_from takes kind [] (Some v) m h s = cc
-given_from true kind (v ∷ []) None m h s = cc
-given_from true kind (v ∷ []) (Some w) m h (n, (e, q)) =
-    let same : w ≡ v = cc in
-    once v n refl refl (ap (meaning_of kind) (sym same) ∙ e) q
-given_from false kind (v ∷ []) o m h s = cc
-given_from takes kind (v ∷ w ∷ values) o m h s = cc
+-- What is asked.
 
-pub record Allows (takes : Bool) (kind : Kind) (values : List Text) (m : Option Meaning) : Type 0 where
-  pub value : Option Text
-  pub is : allowed takes values ≡ Some value
-  pub says : said kind value m
+-- what is asked behind the name of a command is asked of it
+pub record Behind (offers : List Offer) (command : Command) (words : List Text) (r : Request) : Type 0 where
+  pub said : Said
+  pub say : Say offers command words said
+  pub asked : request_said command said ≡ Some r
 
-pub given_to : (takes : Bool) (kind : Kind) (values : List Text) (m : Option Meaning)
-    → IsGiven takes kind values m → Allows takes kind values m
-given_to takes kind values m (absent e q) = record { value = None; is = ap (allowed takes) e; says = q }
-given_to takes kind values m (once v n e t k q) = record {
-  value = Some v;
-  is = ap (allowed takes) e ∙ ap (λ (b : Bool). allowed b (v ∷ [])) t;
-  says = (n, (k, q));
-}
+pub behind : (offers : List Offer) (name : Text) (words : List Text) (command : Command) (r : Request) → name ≡ (row command).text
+    → Asks offers (name ∷ words) r → Behind offers command words r
+behind offers name words command r named asks =
+    let both = cons_same name (row asks.command).text words asks.rest asks.named in
+    let same : asks.command ≡ command = one_name asks.command command (sym both.0 ∙ named) in
+    let P : Command → Type 0 = λ c. Say offers c words asks.said × (request_said c asks.said ≡ Some r) in
+    let Q : List Text → Type 0 = λ ws. Say offers asks.command ws asks.said in
+    let (say, asked) = subst P same (subst Q (sym both.1) asks.say, asks.asked) in
+    record { said = asks.said; say = say; asked = asked }
 
--- The line.
-
-pub record Lines (offers : List Offer) (c : Command) (pieces : List Piece) (line : LineTexts) : Type 0 where
-  pub words : words_of pieces ≡ line.words
-  pub count : length line.words ≡ length (row c).words
-  pub values : (o : OptionName) → value_for offers c pieces o ≡ Some (value_in line o)
-
-counted_from : (c : Command) (line out : LineTexts) → counted c line ≡ Some out
-    → (line ≡ out) × (length line.words ≡ length (row c).words)
-counted_from c line out h = go (length line.words == length (row c).words) (λ e. grind (arith, nat_tests)) h
-  where
-    go : (b : Bool) → (b ≡ true → length line.words ≡ length (row c).words) → (if b then Some line else None) ≡ Some out
-        → (line ≡ out) × (length line.words ≡ length (row c).words)
-    go true e h = (cc, e refl)
-    go false e h = cc
-
-counted_to : (c : Command) (line : LineTexts) → length line.words ≡ length (row c).words → counted c line ≡ Some line
-counted_to c line e = go (length line.words == length (row c).words) (grind (arith, nat_tests))
-  where
-    go : (b : Bool) → b ≡ true → (if b then Some line else None) ≡ Some line
-    go true h = refl
-    go false h = cc
-
-pub line_from : (offers : List Offer) (c : Command) (pieces : List Piece) (line : LineTexts)
-    → line_for offers c pieces ≡ Some line → Lines offers c pieces line
-line_from offers c pieces line h =
-    let (s, (se, h1)) = chained _ (value_for offers c pieces As) line h in
-    let (p, (pe, h2)) = chained _ (value_for offers c pieces Parties) line h1 in
-    let (d, (de, h3)) = chained _ (value_for offers c pieces Dealer) line h2 in
-    let made : LineTexts = record { words = words_of pieces; sharing = s; parties = p; dealer = d } in
-    let (same, count) = counted_from c made line h3 in
-    let P : LineTexts → Type 0 = λ x. Lines offers c pieces x in
-    subst P same (record {
-      words = refl;
-      count = count;
-      values = λ o. elim o as (λ o. value_for offers c pieces o ≡ Some (value_in made o)) [ As ↦ se | Parties ↦ pe | Dealer ↦ de ];
-    })
-
-pub line_to : (offers : List Offer) (c : Command) (pieces : List Piece) (line : LineTexts)
-    → Lines offers c pieces line → line_for offers c pieces ≡ Some line
-line_to offers c pieces line l =
-    rw (l.values As, l.values Parties, l.values Dealer, l.words) (counted_to c line l.count)
-
-lacks : (offers : List Offer) (c : Command) (o : OptionName) → list_any (is_same o) (row c).options ≡ false
-    → takes_option offers c o ≡ false
-lacks offers c o h = rw h refl
-
-not_taken : (values : List Text) (o : Option Text) → allowed false values ≡ Some o → o ≡ None
-not_taken [] o h = cc
-not_taken (v ∷ []) o h = cc
-not_taken (v ∷ w ∷ values) o h = cc
-
-pub line_fits : (offers : List Offer) (c : Command) (pieces : List Piece) (line : LineTexts)
-    → Lines offers c pieces line → Fits c line
-line_fits offers c pieces line l = record {
-  words = l.count;
-  options = λ o h. not_taken (given o pieces) (value_in line o)
-      (ap (λ (b : Bool). allowed b (given o pieces)) (sym (lacks offers c o h)) ∙ l.values o);
-}
-
--- The whole.
-
-pub asks_from : (offers : List Offer) (name : Text) (rest : List Text) (c : Command) (r : Request)
-    → command_named name ≡ Some c → is_offered offers c ≡ true → line_request offers c rest ≡ Some r
-    → Asks offers (name ∷ rest) r
-asks_from offers name rest c r n f h =
-    let (pieces, (k, h1)) = chained _ (cut Between rest) r h in
-    let (line, (e, q)) = chained _ (line_for offers c pieces) r h1 in
-    let l = line_from offers c pieces line e in
-    let m = means_from c line r (line_fits offers c pieces line l) q in
-    let back = sym m.command in
-    record {
-      rest = rest;
-      pieces = pieces;
-      named = ap (λ (x : Text). x ∷ rest) (named_from name c n ∙ ap (λ (x : Command). (row x).text) back);
-      offered = ap (is_offered offers) m.command ∙ f;
-      spelt = spelt_from rest pieces k;
-      positional = ap (λ (x : Command). meanings (row x).words (words_of pieces)) m.command
-          ∙ ap (meanings (row c).words) l.words ∙ m.words;
-      options = λ o.
-          let P : Command → Type 0 = λ x. IsGiven (takes_option offers x o) (option_kind o) (given o pieces) (option_of o r) in
-          subst P back (given_from (takes_option offers c o) (option_kind o) (given o pieces) (value_in line o)
-          (option_of o r) (l.values o) (m.options o));
-    }
-
--- the line that what is asked makes
-asked_line : (offers : List Offer) (words : List Text) (r : Request) → Asks offers words r → LineTexts
-asked_line offers words r a =
-    let value : OptionName → Option Text = λ o. (given_to _ _ _ _ (a.options o)).value in
-    record { words = words_of a.pieces; sharing = value As; parties = value Parties; dealer = value Dealer }
-
-asked_value : (offers : List Offer) (words : List Text) (r : Request) (a : Asks offers words r) (o : OptionName)
-    → value_in (asked_line offers words r a) o ≡ (given_to _ _ _ _ (a.options o)).value
-unfolding asked_line
-asked_value offers words r a As = refl
-asked_value offers words r a Parties = refl
-asked_value offers words r a Dealer = refl
-
-same_count : (kinds : List Kind) (words : List Text) (ms : List Meaning) → meanings kinds words ≡ Some ms
-    → length words ≡ length kinds
-same_count [] [] ms h = refl
-same_count [] (w ∷ words) ms h = cc
-same_count (k ∷ kinds) [] ms h = cc
-same_count (k ∷ kinds) (w ∷ words) ms h =
-    let (n, (e, rest)) = chained _ (meaning_of k w) ms h in
-    let (ns, (f, q)) = mapped (λ (x : List Meaning). n ∷ x) (meanings kinds words) ms rest in
-    let ih = same_count kinds words ns f in
-    omega arith
-
-asked_lines : (offers : List Offer) (words : List Text) (r : Request) (a : Asks offers words r)
-    → Lines offers (command_of r) a.pieces (asked_line offers words r a)
-unfolding asked_line
-asked_lines offers words r a = record {
-  words = refl;
-  count = same_count (row (command_of r)).words (words_of a.pieces) _ a.positional;
-  values = λ o. (given_to _ _ _ _ (a.options o)).is ∙ ap (λ (x : Option Text). Some x) (sym (asked_value offers words r a o));
-}
-
-asked_means : (offers : List Offer) (words : List Text) (r : Request) (a : Asks offers words r)
-    → Means (command_of r) (asked_line offers words r a) r
-unfolding asked_line
-asked_means offers words r a = record {
-  command = refl;
-  words = a.positional;
-  options = λ o.
-      let P : Option Text → Type 0 = λ x. said (option_kind o) x (option_of o r) in
-      subst P (sym (asked_value offers words r a o)) (given_to _ _ _ _ (a.options o)).says;
-}
-
-asked_request : (offers : List Offer) (words : List Text) (r : Request) (a : Asks offers words r)
-    → line_request offers (command_of r) a.rest ≡ Some r
-asked_request offers words r a =
-    let k = spelt_to a.rest a.pieces a.spelt in
-    let l = line_to offers (command_of r) a.pieces (asked_line offers words r a) (asked_lines offers words r a) in
-    let m = means_to (command_of r) (asked_line offers words r a) r (asked_means offers words r a) in
-    ap (option_and_then (λ (p : List Piece). option_and_then (request_for (command_of r)) (line_for offers (command_of r) p))) k
-    ∙ ap (option_and_then (request_for (command_of r))) l ∙ m
-
-pub reading_of : (offers : List Offer) (words : List Text) (r : Request) → Asks offers words r → reading offers words ≡ Some r
-reading_of offers words r a =
-    let whole : reading offers ((row (command_of r)).text ∷ a.rest) ≡ Some r =
-    rw (named_row (command_of r), a.offered) (asked_request offers words r a) in
-    ap (reading offers) a.named ∙ whole
+say_once : {offers : List Offer} {command : Command} {words : List Text} (a b : Said) → Say offers command words a → Say offers command words b → a ≡ b
+say_once {offers} {command} {words} a b first second =
+    let (line, means) = say_line first in
+    let (other, more) = say_line second in
+    let P : List Piece → Type 0 = λ pieces. Means command pieces b in
+    means_once command first.pieces a b means (subst P (one_line other line) more)
 
 pub one_request : (offers : List Offer) (words : List Text) (a b : Request) → Asks offers words a → Asks offers words b → a ≡ b
-one_request offers words a b p q =
-    let e = sym (reading_of offers words a p) ∙ reading_of offers words b q in
-    some_same e
-  where
-    some_same : Some a ≡ Some b → a ≡ b
-    some_same e = cc
+one_request offers words a b first second =
+    let P : List Text → Type 0 = λ ws. Asks offers ws b in
+    let other = behind offers (row first.command).text first.rest first.command b refl (subst P first.named second) in
+    let same = say_once first.said other.said first.say other.say in
+    same_some a b (sym first.asked ∙ ap (request_said first.command) same ∙ other.asked)
 
--- What the code's steps come to.
+-- the request of a command is one of it
+pub of_command : (c : Command) (said : Said) (r : Request) → request_said c said ≡ Some r → command_of r ≡ c
+of_command Plain said r h = let (p, is, same) = mapped_some plain _ r h in ap command_of same
+of_command Needs said r h = let (p, is, same) = mapped_some needs _ r h in ap command_of same
+of_command Deal said r h = let (p, is, same) = mapped_some deal _ r h in ap command_of same
+of_command Local said r h = let (p, is, same) = mapped_some local _ r h in ap command_of same
 
-pub line_request_is : (offers : List Offer) (c : Command) (words : List Text) (pieces : List Piece) (line : LineTexts)
-    → cut Between words ≡ Some pieces → line_for offers c pieces ≡ Some line
-    → line_request offers c words ≡ request_for c line
-line_request_is offers c words pieces line k l =
-    ap (option_and_then (λ (p : List Piece). option_and_then (request_for c) (line_for offers c p))) k
-    ∙ ap (option_and_then (request_for c)) l
+pub asks_of_its_command : (offers : List Offer) (command : Command) (words : List Text) (r : Request)
+    → AsksAs offers command words r → command_of r ≡ command
+asks_of_its_command offers command words r asks =
+    let there = behind offers (row command).text words command r refl asks in
+    of_command command there.said r there.asked
 
-pub none_cut : (offers : List Offer) (c : Command) (words : List Text) → cut Between words ≡ None
-    → line_request offers c words ≡ None
-none_cut offers c words k =
-    ap (option_and_then (λ (p : List Piece). option_and_then (request_for c) (line_for offers c p))) k
+not_given : (takes : Bool) (kind : _) (values : List Text) (m : Option Meaning) → IsGiven takes kind values m → takes ≡ false → m ≡ None
+not_given takes kind values m (absent e q) h = q
+not_given takes kind values m (once v n e t k q) h = cc
 
-pub none_lined : (offers : List Offer) (c : Command) (words : List Text) (pieces : List Piece)
-    → cut Between words ≡ Some pieces → line_for offers c pieces ≡ None → line_request offers c words ≡ None
-none_lined offers c words pieces k l =
-    ap (option_and_then (λ (p : List Piece). option_and_then (request_for c) (line_for offers c p))) k
-    ∙ ap (option_and_then (request_for c)) l
+pub option_is_absent : (offers : List Offer) (command : Command) (words : List Text) (said : Said) (o : OptionName)
+    → Say offers command words said → takes_option offers command o ≡ false → said.option o ≡ None
+option_is_absent offers command words said o say h = not_given _ _ _ _ (say.options o) h
 
-pub fits_of : (offers : List Offer) (c : Command) (pieces : List Piece) (line : LineTexts)
-    → line_for offers c pieces ≡ Some line → Fits c line
-fits_of offers c pieces line h = line_fits offers c pieces line (line_from offers c pieces line h)
+-- From the steps of the reading.
 
-pub none_asked : (offers : List Offer) (name : Text) (rest : List Text) (c : Command) → command_named name ≡ Some c
-    → is_offered offers c ≡ true → line_request offers c rest ≡ None → (r : Request) → ¬ (Asks offers (name ∷ rest) r)
-none_asked offers name rest c n f h r a =
-    let is : reading offers (name ∷ rest) ≡ None = rw (n, f) h in
-    let some : reading offers (name ∷ rest) ≡ Some r = reading_of offers (name ∷ rest) r a in
+pub asks_behind : {offers : List Offer} {command : Command} {words : List Text} (said : Said) (r : Request)
+    → Say offers command words said → request_said command said ≡ Some r → AsksAs offers command words r
+asks_behind {offers} {command} {words} said r say asked = record {
+  command = command;
+  rest = words;
+  said = said;
+  named = refl;
+  say = say;
+  asked = asked;
+}
+
+-- nothing is asked where the words say nothing
+pub nothing_said : {offers : List Offer} {command : Command} {words : List Text} → ((said : Said) → ¬ (Say offers command words said))
+    → (r : Request) → ¬ (AsksAs offers command words r)
+nothing_said {offers} {command} {words} none r asks =
+    let there = behind offers (row command).text words command r refl asks in
+    none there.said there.say
+
+-- or where they say nothing that asks for something
+pub nothing_asked : {offers : List Offer} {command : Command} {words : List Text} (said : Said) → Say offers command words said
+    → request_said command said ≡ None → (r : Request) → ¬ (AsksAs offers command words r)
+nothing_asked {offers} {command} {words} said say none r asks =
+    let there = behind offers (row command).text words command r refl asks in
+    let is : None ≡ Some r = sym none ∙ ap (request_said command) (say_once said there.said say there.say) ∙ there.asked in
     cc
 
-pub not_named : (offers : List Offer) (name : Text) (rest : List Text) → command_named name ≡ None
-    → (r : Request) → ¬ (Asks offers (name ∷ rest) r)
-not_named offers name rest n r a =
-    let is : reading offers (name ∷ rest) ≡ None = rw n refl in
-    let some : reading offers (name ∷ rest) ≡ Some r = reading_of offers (name ∷ rest) r a in
+-- a line that means nothing says nothing
+pub nothing_meant : {offers : List Offer} {command : Command} {words : List Text} {pieces : List Piece} → IsLine offers command words pieces
+    → ((said : Said) → ¬ (Means command pieces said)) → (said : Said) → ¬ (Say offers command words said)
+nothing_meant {offers} {command} {words} {pieces} line none said say =
+    let (other, means) = say_line say in
+    let P : List Piece → Type 0 = λ pieces. Means command pieces said in
+    none said (subst P (one_line other line) means)
+
+pub no_line : {offers : List Offer} {command : Command} {words : List Text} → ((pieces : List Piece) → ¬ (IsLine offers command words pieces))
+    → (said : Said) → ¬ (Say offers command words said)
+no_line {offers} {command} {words} none said say = none say.pieces (say_line say).0
+
+pub not_cut : {offers : List Offer} {command : Command} {words : List Text} → cut Between words ≡ None
+    → (said : Said) → ¬ (Say offers command words said)
+not_cut {offers} {command} {words} none said say = (let is : None ≡ Some say.pieces = sym none ∙ (say_line say).0.spelt in cc)
+
+pub not_taken : {offers : List Offer} {command : Command} {words : List Text} (pieces : List Piece) → cut Between words ≡ Some pieces
+    → is_taken offers command pieces ≡ false → (said : Said) → ¬ (Say offers command words said)
+not_taken {offers} {command} {words} pieces spelt none said say =
+    let line = (say_line say).0 in
+    let same : pieces ≡ say.pieces = same_some pieces say.pieces (sym spelt ∙ line.spelt) in
+    let is : true ≡ false = sym line.taken ∙ ap (is_taken offers command) (sym same) ∙ none in
     cc
 
-pub not_offered : (offers : List Offer) (name : Text) (rest : List Text) (c : Command) → command_named name ≡ Some c
-    → is_offered offers c ≡ false → (r : Request) → ¬ (Asks offers (name ∷ rest) r)
-not_offered offers name rest c n f r a =
-    let is : reading offers (name ∷ rest) ≡ None = rw (n, f) refl in
-    let some : reading offers (name ∷ rest) ≡ Some r = reading_of offers (name ∷ rest) r a in
-    cc
+pub not_offered : {offers : List Offer} {command : Command} {words : List Text} → is_offered offers command ≡ false
+    → (said : Said) → ¬ (Say offers command words said)
+not_offered none said say = (let is : true ≡ false = sym say.offered ∙ none in cc)
+
+pub all_asked : {offers : List Offer} {command : Command} {words : List Text} (said : Said) (r : Result CommandWords WordsError)
+    → Say offers command words said → IfOk r (λ w. request_said command said ≡ Some (request_of w))
+    → IfOk r (λ w. AsksAs offers command words (request_of w))
+all_asked {offers} {command} {words} said (Ok w) say asked = asks_behind said (request_of w) say asked
+all_asked {offers} {command} {words} said (Err e) say asked = tt
+
+-- The name in front.
 
 pub no_words : (offers : List Offer) (r : Request) → ¬ (Asks offers [] r)
-no_words offers r a = let e = a.named in cc
+no_words offers r asks = (let e = asks.named in cc)
+
+pub not_named : (offers : List Offer) (name : Text) (rest : List Text) → command_named name ≡ None → (r : Request) → ¬ (Asks offers (name ∷ rest) r)
+not_named offers name rest none r asks =
+    let both = cons_same name (row asks.command).text rest asks.rest asks.named in
+    let is : None ≡ Some asks.command = sym none ∙ ap command_named both.0 ∙ named_row asks.command in
+    cc
 
 pub ok_map : {X E : Type 0} (P Q : X → Type 0) → ((x : X) → P x → Q x) → (r : Result X E) → IfOk r P → IfOk r Q
 ok_map P Q f (Ok x) h = f x h
 ok_map P Q f (Err e) h = h
-
-pub asked : (offers : List Offer) (words : List Text) → ((r : Request) × Asks offers words r) ⊎ ((r : Request) → ¬ (Asks offers words r))
-asked offers [] = inr (no_words offers)
-asked offers (name ∷ rest) = by_name (command_named name) refl
-  where
-    by_line : (c : Command) → command_named name ≡ Some c → is_offered offers c ≡ true → (o : Option Request)
-        → line_request offers c rest ≡ o
-        → ((r : Request) × Asks offers (name ∷ rest) r) ⊎ ((r : Request) → ¬ (Asks offers (name ∷ rest) r))
-    by_line c n f None h = inr (none_asked offers name rest c n f h)
-    by_line c n f (Some r) h = inl (r, asks_from offers name rest c r n f h)
-
-    by_offer : (c : Command) → command_named name ≡ Some c → (b : Bool) → is_offered offers c ≡ b
-        → ((r : Request) × Asks offers (name ∷ rest) r) ⊎ ((r : Request) → ¬ (Asks offers (name ∷ rest) r))
-    by_offer c n true f = by_line c n f (line_request offers c rest) refl
-    by_offer c n false f = inr (not_offered offers name rest c n f)
-
-    by_name : (o : Option Command) → command_named name ≡ o
-        → ((r : Request) × Asks offers (name ∷ rest) r) ⊎ ((r : Request) → ¬ (Asks offers (name ∷ rest) r))
-    by_name None n = inr (not_named offers name rest n)
-    by_name (Some c) n = by_offer c n (is_offered offers c) refl
-
--- The line that the words after the name of a command make.
-
-pub line_fits_row : {offers : List Offer} {c : Command} {words : List Text} {line : LineTexts}
-    → IsLine offers c words line → Fits c line
-line_fits_row l = fits_of _ _ l.pieces _ l.made
-
--- what `clap` gives back is the line that it was given
-pub line_through : {offers : List Offer} {c : Command} {words list : List Text} {through : LineTexts}
-    → ((line : LineTexts) × IsLine offers c words line × (list ≡ canonical line))
-    → ((line : LineTexts) → Fits c line → list ≡ canonical line → through ≡ line) → IsLine offers c words through
-line_through {offers} {c} {words} made back =
-    let P : LineTexts → Type 0 = λ x. IsLine offers c words x in
-    subst P (sym (back made.0 (line_fits_row made.1) made.2)) made.1
-
-pub line_asks : {offers : List Offer} {c : Command} {words : List Text} {line : LineTexts} (r : Request)
-    → IsLine offers c words line → request_for c line ≡ Some r → AsksAs offers c words r
-line_asks {offers} {c} {words} {line} r l h =
-    asks_from offers (row c).text words c r (named_row c) l.offered (line_request_is offers c words l.pieces line l.spelt l.made ∙ h)
-
-pub line_refused : {offers : List Offer} {c : Command} {words : List Text} {line : LineTexts}
-    → IsLine offers c words line → request_for c line ≡ None → (r : Request) → ¬ (AsksAs offers c words r)
-line_refused {offers} {c} {words} {line} l h =
-    none_asked offers (row c).text words c (named_row c) l.offered (line_request_is offers c words l.pieces line l.spelt l.made ∙ h)
-
--- What a reader of the words after a command's name answers.
-
-pub read_as : {W : Type 0} {offers : List Offer} {c : Command} {words : List Text} {line : LineTexts} (is : W → Request)
-    (r : Result W WordsError) → IsLine offers c words line → IfOk r (λ w. request_for c line ≡ Some (is w))
-    → IfOk r (λ w. AsksAs offers c words (is w))
-read_as {W} {offers} {c} {words} {line} is r l h =
-    ok_map (λ (w : W). request_for c line ≡ Some (is w)) (λ w. AsksAs offers c words (is w)) (λ w e. line_asks (is w) l e) r h
-
-pub cut_refused : (offers : List Offer) (c : Command) (words : List Text) → is_offered offers c ≡ true
-    → cut Between words ≡ None → (r : Request) → ¬ (AsksAs offers c words r)
-cut_refused offers c words offered h =
-    none_asked offers (row c).text words c (named_row c) offered (none_cut offers c words h)
-
-pub lined_refused : (offers : List Offer) (c : Command) (words : List Text) (pieces : List Piece) → is_offered offers c ≡ true
-    → cut Between words ≡ Some pieces → line_for offers c pieces ≡ None → (r : Request) → ¬ (AsksAs offers c words r)
-lined_refused offers c words pieces offered h k =
-    none_asked offers (row c).text words c (named_row c) offered (none_lined offers c words pieces h k)
-
--- From the words behind a command's name to all words.
 
 pub whole_line : {c : Command} {name : Text} {rest words : List Text} → words ≡ name ∷ rest → command_named name ≡ Some c
     → words ≡ (row c).text ∷ rest
@@ -356,3 +188,86 @@ pub as_none : (offers : List Offer) (c : Command) (name : Text) (rest words : Li
     → command_named name ≡ Some c → ((r : Request) → ¬ (AsksAs offers c rest r)) → (r : Request) → ¬ (Asks offers words r)
 as_none offers c name rest words is named none r asks =
     none r (subst (λ (x : List Text). Asks offers x r) (whole_line is named) asks)
+
+-- Words ask for something or they do not.
+
+abbrev AskedOrNot : List Offer → List Text → Type 0
+AskedOrNot offers words = ((r : Request) × Asks offers words r) ⊎ ((r : Request) → ¬ (Asks offers words r))
+
+some_is : {X : Type 0} (o : Option X) (d : X) → is_some o ≡ true → o ≡ Some (unwrap_or o d)
+some_is None d h = cc
+some_is (Some x) d h = refl
+
+is_there : {X : Type 0} (o : Option X) (x : X) → o ≡ Some x → is_some o ≡ true
+is_there None x h = cc
+is_there (Some y) x h = refl
+
+abbrev option_says : List Piece → OptionName → Option (Option Meaning)
+option_says pieces o = said_by (option_row o).kind (value_given o pieces)
+
+means_or_not : (c : Command) (pieces : List Piece) → ((said : Said) × Means c pieces said) ⊎ ((said : Said) → ¬ (Means c pieces said))
+means_or_not c pieces = by_words (meanings (kinds c) (words_of pieces)) refl
+  where
+    by_options : (ms : List Meaning) → meanings (kinds c) (words_of pieces) ≡ Some ms → (b : Bool)
+        → list_all (λ o. is_some (option_says pieces o)) options ≡ b
+        → ((said : Said) × Means c pieces said) ⊎ ((said : Said) → ¬ (Means c pieces said))
+    by_options ms words true all = inl (
+      record { words = ms; option = λ o. unwrap_or (option_says pieces o) None },
+      record { words = words; options = λ o. some_is (option_says pieces o) None (all_of (λ o. is_some (option_says pieces o)) options o all (listed o)) },
+    )
+    by_options ms words false all = inr (λ said means.
+        let is : true ≡ false = sym (each_of (λ o. is_some (option_says pieces o)) options (λ o. is_there (option_says pieces o) (said.option o) (means.options o))) ∙ all in
+        cc)
+
+    by_words : (o : Option (List Meaning)) → meanings (kinds c) (words_of pieces) ≡ o
+        → ((said : Said) × Means c pieces said) ⊎ ((said : Said) → ¬ (Means c pieces said))
+    by_words None words = inr (λ said means. let is : None ≡ Some said.words = sym words ∙ means.words in cc)
+    by_words (Some ms) words = by_options ms words (list_all (λ o. is_some (option_says pieces o)) options) refl
+
+says_or_not : (offers : List Offer) (c : Command) (words : List Text) → ((said : Said) × Say offers c words said) ⊎ ((said : Said) → ¬ (Say offers c words said))
+says_or_not offers c words = by_offer (is_offered offers c) refl
+  where
+    by_taken : is_offered offers c ≡ true → (pieces : List Piece) → cut Between words ≡ Some pieces → (b : Bool) → is_taken offers c pieces ≡ b
+        → ((said : Said) × Say offers c words said) ⊎ ((said : Said) → ¬ (Say offers c words said))
+    by_taken offered pieces spelt false taken = inr (not_taken pieces spelt taken)
+    by_taken offered pieces spelt true taken =
+        let line : IsLine offers c words pieces = record { offered = offered; spelt = spelt; taken = taken } in
+        elim (means_or_not c pieces) [
+          | inl means ↦ inl (means.0, line_says means.0 line means.1)
+          | inr none ↦ inr (nothing_meant line none)
+        ]
+
+    by_cut : is_offered offers c ≡ true → (o : Option (List Piece)) → cut Between words ≡ o
+        → ((said : Said) × Say offers c words said) ⊎ ((said : Said) → ¬ (Say offers c words said))
+    by_cut offered None spelt = inr (not_cut spelt)
+    by_cut offered (Some pieces) spelt = by_taken offered pieces spelt (is_taken offers c pieces) refl
+
+    by_offer : (b : Bool) → is_offered offers c ≡ b → ((said : Said) × Say offers c words said) ⊎ ((said : Said) → ¬ (Say offers c words said))
+    by_offer false offered = inr (not_offered offered)
+    by_offer true offered = by_cut offered (cut Between words) refl
+
+pub asked : (offers : List Offer) (words : List Text) → AskedOrNot offers words
+asked offers [] = inr (no_words offers)
+asked offers (name ∷ rest) = by_name (command_named name) refl
+  where
+    by_request : (c : Command) → command_named name ≡ Some c → (said : Said) → Say offers c rest said → (o : Option Request)
+        → request_said c said ≡ o → AskedOrNot offers (name ∷ rest)
+    by_request c named said say None asks = inr (as_none offers c name rest (name ∷ rest) refl named (nothing_asked said say asks))
+    by_request c named said say (Some r) asks = inl (
+      r,
+      record {
+        command = c;
+        rest = rest;
+        said = said;
+        named = ap (λ (x : Text). x ∷ rest) (named_from name c named);
+        say = say;
+        asked = asks;
+      },
+    )
+
+    by_name : (o : Option Command) → command_named name ≡ o → AskedOrNot offers (name ∷ rest)
+    by_name None named = inr (not_named offers name rest named)
+    by_name (Some c) named = elim (says_or_not offers c rest) [
+      | inl says ↦ by_request c named says.0 says.1 (request_said c says.0) refl
+      | inr none ↦ inr (as_none offers c name rest (name ∷ rest) refl named (nothing_said none))
+    ]

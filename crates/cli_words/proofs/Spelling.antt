@@ -1,13 +1,14 @@
 -- What the pass makes of one word, and what the word then spells.
-use Rattle.std.proofs.Common.{◌≡◌, ◌≢◌, ℕ, ◌<◌, ◌==◌, Bool, true, false, not, [], ◌∷◌, ◌++◌, length, codes, Some, None, Option, option_map, option_and_then, refl, ◌∙◌, ap, arith, inl, inr, append-nil}
+use Rattle.std.proofs.Common.{◌≡◌, ◌≢◌, ℕ, ◌<◌, ◌==◌, Bool, true, false, not, List, [], ◌∷◌, ◌++◌, length, codes, Some, None, Option, option_map, option_and_then, refl, ◌∙◌, ap, arith, inl, inr, append-nil}
 use Rattle.std.specs.Prelude.{◌⊎◌, if◌then◌else◌, bytes_eq}
 use Rattle.std.specs.Str.{byte}
 use Rattle.std.specs.Option.{option_or}
 use Rattle.std.proofs.lemmas.Bool.Decides.{nat_tests}
 use Rattle.std.proofs.lemmas.Slice.Eq.{bytes_eq-Decides}
-use Rattle.cli_words.specs.Table.{Text, flag, is_empty}
+use Rattle.text_lines.specs.Text.{Text, is_empty}
+use Rattle.cli_words.specs.Table.{flag, options}
 use Rattle.cli_words.specs.Grammar.{IsPlain, option, word}
-use Rattle.cli_words.specs.Pass.{is_plain, rest_after, rest_spelling, Next, after_spelling, option_step, first_step}
+use Rattle.cli_words.specs.Pass.{is_plain, rest_after, rest_spelling, Next, after_spelling, option_step, options_step, first_step}
 use Rattle.cli_words.specs.declared.table.OptionName.{OptionName}
 use Rattle.cli_words.specs.declared.table.OptionName.TheVariants.{As, Parties, Dealer}
 use Rattle.cli_words.specs.declared.pass.State.TheVariants.{Between, Awaiting, Behind}
@@ -38,8 +39,10 @@ after_is (c ∷ cs) (d ∷ ds) r h = next (d == c) (same d c) (after_is cs ds r)
     next true e after h = let tail : ds ≡ cs ++ r = after h in let head : d ≡ c = e refl in cc
     next false e after h = cc
 
-pub not_empty : (c : ℕ) (cs : Text) → is_empty (c ∷ cs) ≡ false
-not_empty c cs = grind (arith, nat_tests)
+-- whether a text is empty, by its length
+pub empty_by_length : (text : Text) → (length text == 0) ≡ is_empty text
+empty_by_length [] = refl
+empty_by_length (c ∷ cs) = grind (arith, nat_tests)
 
 -- what a word that begins a piece comes to
 pub data First (w : Text) (next : Next) : Type 0 where
@@ -75,34 +78,24 @@ or_is : {X : Type 0} (a b : Option X) (x : X) → option_or a b ≡ Some x → (
 or_is (Some y) b x h = inl h
 or_is None b x h = inr h
 
-abbrev options : Text → Option Next
-options w = option_or (option_or (option_step As w) (option_step Parties w)) (option_step Dealer w)
-
-options_is : (w : Text) (next : Next) → options w ≡ Some next → First w next
-options_is w next h = elim (or_is (option_or (option_step As w) (option_step Parties w)) (option_step Dealer w) next h) [
-  | inl b ↦ elim (or_is (option_step As w) (option_step Parties w) next b) [
-    | inl a ↦ option_is As w next a
-    | inr p ↦ option_is Parties w next p
-  ]
-  | inr d ↦ option_is Dealer w next d
+options_is : (os : List OptionName) (w : Text) (next : Next) → options_step os w ≡ Some next → First w next
+options_is [] w next h = cc
+options_is (o ∷ os) w next h = elim (or_is (option_step o w) (options_step os w) next h) [
+  | inl a ↦ option_is o w next a
+  | inr b ↦ options_is os w next b
 ]
 
--- what is known of one of several
-pub map_or : {X Y : Type 0} (f : X → Y) (a b : Option X) → option_map f (option_or a b) ≡ option_or (option_map f a) (option_map f b)
-map_or f None b = refl
-map_or f (Some x) b = refl
-
 dashed_is : (w : Text) (next : Next) (b : Bool) → (b ≡ true → w ≡ codes "--")
-    → (if b then Some (record { piece = None; state = Behind }) else options w) ≡ Some next → First w next
+    → (if b then Some (record { piece = None; state = Behind }) else options_step options w) ≡ Some next → First w next
 dashed_is w next true e h = divider (e refl) (cc)
-dashed_is w next false e h = options_is w next h
+dashed_is w next false e h = options_is options w next h
 
 pub first_is : (w : Text) (next : Next) → first_step w ≡ Some next → First w next
 first_is w next h = go (is_plain w) refl h
   where
     go : (b : Bool) → is_plain w ≡ b
         → (if b then Some (record { piece = Some (word w); state = Between })
-        else if bytes_eq w (codes "--") then Some (record { piece = None; state = Behind }) else options w) ≡ Some next
+        else if bytes_eq w (codes "--") then Some (record { piece = None; state = Behind }) else options_step options w) ≡ Some next
         → First w next
     go true e h = lone (plain_from w e) (cc)
     go false e h = dashed_is w next (bytes_eq w (codes "--")) (bytes_eq-Decides w (codes "--")).0 h

@@ -1,22 +1,13 @@
 -- The `clap` command of each row of the table, and the canonical list of words that it is given.
-use Rattle.std.specs.Prelude.{◌≡◌, true, false, List, [], ◌∷◌, ◌++◌, length, codes, Option, Some, None}
+use Rattle.std.specs.Prelude.{◌≡◌, ◌≢◌, true, false, List, [], ◌∷◌, ◌++◌, length, codes, Option, Some, None}
 use Rattle.std.specs.List.{list_any}
 use Rattle.clap.specs.Words.{App, Rule, new_app, new_rule, with_rule}
-use Rattle.cli_words.specs.Table.{Text, row, flag, option_name, is_same}
-use Rattle.cli_words.specs.Pass.{LineTexts}
+use Rattle.text_lines.specs.Text.{Text}
+use Rattle.cli_words.specs.Table.{row, ids, flag, option_name, is_same}
+use Rattle.cli_words.specs.Grammar.{Piece, words_of}
+use Rattle.cli_words.specs.Pass.{value_given}
 use Rattle.cli_words.specs.declared.table.Command.{Command}
-use Rattle.cli_words.specs.declared.table.Command.TheVariants.{Plain, Needs, Deal, Local}
 use Rattle.cli_words.specs.declared.table.OptionName.{OptionName}
-use Rattle.cli_words.specs.declared.table.OptionName.TheVariants.{As, Parties, Dealer}
-
--- the ids of a command's positional words
-abbrev pub ids : Command → List Text
-ids Plain = codes "CIRCUIT" ∷ codes "VALUES" ∷ []
-ids Needs = codes "CIRCUIT" ∷ []
-ids Deal =
-    codes "PREFIX" ∷ codes "SEED" ∷ codes "PARTIES"
-    ∷ codes "MULT" ∷ codes "BIT" ∷ codes "SHARED" ∷ codes "KEY" ∷ []
-ids Local = codes "CIRCUIT" ∷ codes "VALUES" ∷ codes "SEED" ∷ []
 
 abbrev pub bare_app : App
 bare_app = let app = new_app (codes "motion") in record app {
@@ -41,22 +32,26 @@ with_words app (id ∷ rest) = with_words (with_rule app (word_rule id)) rest
 abbrev pub app_for : Command → App
 app_for command = with_words (with_options bare_app (row command).options) (ids command)
 
-abbrev pub option_words : OptionName → Option Text → List Text
-option_words o (Some value) = (flag o ++ (codes "=" ++ value)) ∷ []
-option_words o None = []
+-- a value, and the empty text where there is none
+abbrev pub or_empty : Option Text → Text
+or_empty None = []
+or_empty (Some value) = value
 
--- each option as `--name=value`, in the table's order, `--`, and the positional words
-abbrev pub canonical : LineTexts → List Text
-canonical line =
-    option_words As line.sharing ++ (option_words Parties line.parties
-    ++ (option_words Dealer line.dealer ++ (codes "--" ∷ line.words)))
+-- An option as `--name=value`. One that is not there has the empty value, which no line gives, so that the list of
+-- a command has one form.
+abbrev pub option_word : OptionName → Option Text → Text
+option_word o value = flag o ++ (codes "=" ++ or_empty value)
 
-abbrev pub value_in : LineTexts → OptionName → Option Text
-value_in line As = line.sharing
-value_in line Parties = line.parties
-value_in line Dealer = line.dealer
+abbrev pub option_words : List OptionName → List Piece → List Text
+option_words [] pieces = []
+option_words (o ∷ os) pieces = option_word o (value_given o pieces) ∷ option_words os pieces
 
--- the line has the words of the command's row, and no options but its
-pub record Fits (command : Command) (line : LineTexts) : Type 0 where
-  pub words : length line.words ≡ length (row command).words
-  pub options : (o : OptionName) → list_any (is_same o) (row command).options ≡ false → value_in line o ≡ None
+-- each option of the row, `--`, and the positional words
+abbrev pub canonical : Command → List Piece → List Text
+canonical command pieces = option_words (row command).options pieces ++ (codes "--" ∷ words_of pieces)
+
+-- the pieces have the words of the command's row and no options but its, and no value is empty
+pub record Fits (command : Command) (pieces : List Piece) : Type 0 where
+  pub words : length (words_of pieces) ≡ length (row command).words
+  pub options : (o : OptionName) → list_any (is_same o) (row command).options ≡ false → value_given o pieces ≡ None
+  pub some : (o : OptionName) (value : Text) → value_given o pieces ≡ Some value → value ≢ []

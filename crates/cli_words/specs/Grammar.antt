@@ -1,11 +1,12 @@
 -- The grammar of a line of words, over the table of the commands.
-use Rattle.std.specs.Prelude.{◌≡◌, ◌≢◌, ◌<◌, ◌⊎◌, Bool, true, false, ◌&&◌, if◌then◌else◌, List, [], ◌∷◌, ◌++◌, length, slice_get, map, codes, Option, Some, None, option_map, option_and_then, String, string_bytes}
+use Rattle.std.specs.Prelude.{◌≡◌, ◌≢◌, ◌<◌, ◌⊎◌, Bool, true, ◌&&◌, if◌then◌else◌, List, [], ◌∷◌, ◌++◌, length, slice_get, map, codes, Option, Some, None, option_map, option_and_then, String, string_bytes}
 use Rattle.std.specs.List.{list_any}
 use Rattle.std.specs.Str.{byte}
-use Rattle.cli_words.specs.Table.{Text, Kind, Meaning, row, flag, option_kind, meaning_of, is_same}
-use Rattle.cli_words.specs.Request.{Request, command_of, positional_of, option_of}
+use Rattle.text_lines.specs.Text.{Text}
+use Rattle.cli_words.specs.Table.{Meaning, row, option_row, kinds, flag, meaning_of, is_command, is_same}
+use Rattle.cli_words.specs.Request.{Request, Said, request_said}
 use Rattle.cli_words.specs.declared.table.Command.{Command}
-use Rattle.cli_words.specs.declared.table.Command.TheVariants.{Plain, Needs, Deal, Local}
+use Rattle.cli_words.specs.declared.table.Kind.{Kind}
 use Rattle.cli_words.specs.declared.table.OptionName.{OptionName}
 use Rattle.cli_words.specs.declared.table.Offer.{Offer}
 
@@ -63,13 +64,6 @@ given o [] = []
 given o (option p value ∷ pieces) = if is_same o p then value ∷ given o pieces else given o pieces
 given o (word w ∷ pieces) = given o pieces
 
-abbrev pub is_command : Command → Command → Bool
-is_command Plain Plain = true
-is_command Needs Needs = true
-is_command Deal Deal = true
-is_command Local Local = true
-is_command _ _ = false
-
 -- the command is one of those that are run
 abbrev pub is_offered : List Offer → Command → Bool
 is_offered offers command = list_any (λ offer. is_command offer.command command) offers
@@ -97,17 +91,25 @@ pub data IsGiven (takes : Bool) (kind : Kind) (values : List Text) (meaning : Op
   once : (value : Text) (said : Meaning) → values ≡ value ∷ [] → takes ≡ true
       → meaning_of kind value ≡ Some said → meaning ≡ Some said → IsGiven takes kind values meaning
 
--- With these commands and options, the words after the program's name ask for this: the first names a
--- command that is run, and the others spell its words and options, each of its kind.
-pub record Asks (offers : List Offer) (words : List Text) (request : Request) : Type 0 where
-  pub rest : List Text
+-- With these commands and options, the words after the name of a command that is run say this: they spell its
+-- words and options, each of its kind.
+pub record Say (offers : List Offer) (command : Command) (words : List Text) (said : Said) : Type 0 where
+  pub offered : is_offered offers command ≡ true
   pub pieces : List Piece
-  pub named : words ≡ (row (command_of request)).text ∷ rest
-  pub offered : is_offered offers (command_of request) ≡ true
-  pub spelt : IsSpelt rest pieces
-  pub positional : meanings (row (command_of request)).words (words_of pieces) ≡ Some (positional_of request)
+  pub spelt : IsSpelt words pieces
+  pub positional : meanings (kinds command) (words_of pieces) ≡ Some said.words
   pub options : (o : OptionName) → IsGiven
-      (takes_option offers (command_of request) o) (option_kind o) (given o pieces) (option_of o request)
+      (takes_option offers command o) (option_row o).kind (given o pieces) (said.option o)
+
+-- The words after the program's name ask for this: the first names a command that is run, and what the others
+-- say makes this request of it.
+pub record Asks (offers : List Offer) (words : List Text) (request : Request) : Type 0 where
+  pub command : Command
+  pub rest : List Text
+  pub said : Said
+  pub named : words ≡ (row command).text ∷ rest
+  pub say : Say offers command rest said
+  pub asked : request_said command said ≡ Some request
 
 -- the words after the name of a command ask for this
 abbrev pub AsksAs : List Offer → Command → List Text → Request → Type 0

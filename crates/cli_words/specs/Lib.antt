@@ -1,4 +1,5 @@
 pub mod Canon
+pub mod Filled
 pub mod Grammar
 pub mod Laws
 pub mod Pass

@@ -1,16 +1,16 @@
 -- What the steps of the reading compute, as functions; the grammar is in `Grammar`.
-use Rattle.std.specs.Prelude.{ℕ, ◌≡◌, ◌-◌, ◌==◌, Bool, true, false, not, if◌then◌else◌, List, [], ◌∷◌, length, codes, bytes_eq, Option, Some, None, option_map, option_and_then, map}
+use Rattle.std.specs.Prelude.{◌≡◌, ◌==◌, ◌&&◌, Bool, true, false, not, if◌then◌else◌, List, [], ◌∷◌, length, slice_get, codes, bytes_eq, Option, Some, None, option_map, option_and_then, map}
+use Rattle.std.specs.List.{list_all}
 use Rattle.std.specs.Str.{byte}
-use Rattle.std.specs.Option.{option_copied, option_or}
+use Rattle.std.specs.Option.{option_or}
 use Rattle.std.specs.Borrow.{Bor}
-use Rattle.cli_words.specs.Table.{Text, flag, is_empty, row, seed_of, number_in, sharing_of}
-use Rattle.cli_words.specs.Request.{Request, Bristol, plain, needs, deal, local}
-use Rattle.cli_words.specs.Grammar.{Piece, option, word, words_of, given, is_offered, takes_option}
-use Rattle.mot_base.specs.Limits.{least_parties, most_parties, dealt_records}
+use Rattle.text_lines.specs.Text.{Text, is_empty}
+use Rattle.cli_words.specs.Table.{Meaning, row, option_row, options, kinds, flag, meaning_of}
+use Rattle.cli_words.specs.Request.{Said}
+use Rattle.cli_words.specs.Grammar.{Piece, option, word, words_of, given, is_offered, takes_option, meanings}
 use Rattle.cli_words.specs.declared.table.Command.{Command}
-use Rattle.cli_words.specs.declared.table.Command.TheVariants.{Plain, Needs, Deal, Local}
+use Rattle.cli_words.specs.declared.table.Kind.{Kind}
 use Rattle.cli_words.specs.declared.table.OptionName.{OptionName}
-use Rattle.cli_words.specs.declared.table.OptionName.TheVariants.{As, Parties, Dealer}
 use Rattle.cli_words.specs.declared.table.Offer.{Offer}
 use Rattle.cli_words.specs.declared.pass.State.{State}
 use Rattle.cli_words.specs.declared.pass.State.TheVariants.{Between, Awaiting, Behind}
@@ -18,20 +18,11 @@ use Rattle.cli_words.specs.declared.pass.Piece as declared
 use Rattle.cli_words.specs.declared.pass.Spelt.{Spelt}
 use Rattle.cli_words.specs.declared.pass.Spelt.TheVariants.{Flag, Joined}
 use Rattle.cli_words.specs.declared.pass.Stepped.{Stepped}
-use Rattle.cli_words.specs.declared.pass.Line.{Line}
 use Rattle.cli_words.specs.declared.pass.Piece.TheVariants as pieces
 
 -- what references refer to
 abbrev pub referents : {X : Type 0} → List (Bor X) → List X
 referents = map (λ x. x.now)
-
--- the command of a name
-abbrev pub command_named : Text → Option Command
-command_named name =
-    if bytes_eq name (codes "plain") then Some Plain else
-    if bytes_eq name (codes "needs") then Some Needs else
-    if bytes_eq name (codes "deal") then Some Deal else
-    if bytes_eq name (codes "local") then Some Local else None
 
 -- The pass over the words, one by one.
 
@@ -67,11 +58,16 @@ after_spelling o (Some v) = record { piece = Some (option o v); state = Between 
 abbrev pub option_step : OptionName → Text → Option Next
 option_step o w = option_map (after_spelling o) (spelling o w)
 
+-- what a word comes to that spells one of these options
+abbrev pub options_step : List OptionName → Text → Option Next
+options_step [] w = None
+options_step (o ∷ os) w = option_or (option_step o w) (options_step os w)
+
 abbrev pub first_step : Text → Option Next
 first_step w =
     if is_plain w then Some (record { piece = Some (word w); state = Between })
     else if bytes_eq w (codes "--") then Some (record { piece = None; state = Behind })
-    else option_or (option_or (option_step As w) (option_step Parties w)) (option_step Dealer w)
+    else options_step options w
 
 abbrev pub step : State → Text → Option Next
 step Between w = first_step w
@@ -94,124 +90,42 @@ cut state [] = at_end state
 cut state (w ∷ words) =
     option_and_then (λ next. option_map (begun next.piece) (cut next.state words)) (step state w)
 
--- The line that pieces make.
+-- Whether a command takes the pieces.
 
-pub record LineTexts : Type 0 where
-  pub words : List Text
-  pub sharing : Option Text
-  pub parties : Option Text
-  pub dealer : Option Text
+-- an option is not there, or is there once, where it is taken
+abbrev pub is_allowed : Bool → List Text → Bool
+is_allowed takes [] = true
+is_allowed takes (v ∷ []) = takes
+is_allowed takes (v ∷ w ∷ rest) = false
 
-abbrev pub allowed : Bool → List Text → Option (Option Text)
-allowed takes [] = Some None
-allowed takes (v ∷ []) = if takes then Some (Some v) else None
-allowed takes (v ∷ w ∷ rest) = None
+abbrev pub are_allowed : List Offer → Command → List Piece → Bool
+are_allowed offers command pieces =
+    list_all (λ o. is_allowed (takes_option offers command o) (given o pieces)) options
 
-abbrev pub value_for : List Offer → Command → List Piece → OptionName → Option (Option Text)
-value_for offers command pieces o = allowed (takes_option offers command o) (given o pieces)
+abbrev pub is_taken : List Offer → Command → List Piece → Bool
+is_taken offers command pieces =
+    are_allowed offers command pieces && length (words_of pieces) == length (row command).words
 
-abbrev pub counted : Command → LineTexts → Option LineTexts
-counted command line = if length line.words == length (row command).words then Some line else None
+-- the value that is given to an option
+abbrev pub value_given : OptionName → List Piece → Option Text
+value_given o pieces = slice_get (given o pieces) 0
 
-abbrev pub line_for : List Offer → Command → List Piece → Option LineTexts
-line_for offers command pieces =
-    option_and_then (λ sharing.
-    option_and_then (λ parties.
-    option_and_then (λ dealer. counted command (record {
-      words = words_of pieces;
-      sharing = sharing;
-      parties = parties;
-      dealer = dealer;
-    }))
-    (value_for offers command pieces Dealer))
-    (value_for offers command pieces Parties))
-    (value_for offers command pieces As)
-
--- the line that the words after the name of a command make, where the command is run
-pub record IsLine (offers : List Offer) (command : Command) (words : List Text) (line : LineTexts) :
-    Type 0 where
+-- the words after the name of a command that is run spell these pieces, and the command takes them
+pub record IsLine (offers : List Offer) (command : Command) (words : List Text) (pieces : List Piece) : Type 0 where
   pub offered : is_offered offers command ≡ true
-  pub pieces : List Piece
   pub spelt : cut Between words ≡ Some pieces
-  pub made : line_for offers command pieces ≡ Some line
+  pub taken : is_taken offers command pieces ≡ true
 
--- What a line asks for.
+-- What pieces say.
 
-abbrev pub party_count : Text → Option ℕ
-party_count = number_in least_parties most_parties
+-- an option is not there, or is there with a value of its kind
+abbrev pub said_by : Kind → Option Text → Option (Option Meaning)
+said_by kind None = Some None
+said_by kind (Some text) = option_map (λ m. Some m) (meaning_of kind text)
 
-abbrev pub count : Text → Option ℕ
-count = number_in 0 (dealt_records - 1)
-
-abbrev pub bristol_for : Option Text → Option Text → Option (Option Bristol)
-bristol_for None None = Some None
-bristol_for (Some s) (Some p) =
-    option_and_then (λ sharing. option_map (λ parties. Some (record { sharing = sharing; parties = parties }))
-    (party_count p)) (sharing_of s)
-bristol_for (Some s) None = None
-bristol_for None (Some p) = None
-
-abbrev pub plain_words : Option Bristol → List Text → Option Request
-plain_words bristol (circuit ∷ values ∷ []) =
-    Some (plain (record { circuit = circuit; values = values; bristol = bristol }))
-plain_words bristol words = None
-
-abbrev pub needs_words : Option Bristol → List Text → Option Request
-needs_words bristol (circuit ∷ []) = Some (needs (record { circuit = circuit; bristol = bristol }))
-needs_words bristol words = None
-
-abbrev pub deal_words : List Text → Option Request
-deal_words (prefix ∷ seed ∷ parties ∷ mult ∷ bit ∷ shared ∷ key ∷ []) =
-    option_and_then (λ seed.
-    option_and_then (λ parties.
-    option_and_then (λ mult.
-    option_and_then (λ bit.
-    option_and_then (λ shared.
-    option_map (λ key. deal (record {
-      prefix = prefix;
-      seed = seed;
-      parties = parties;
-      mult = mult;
-      bit = bit;
-      shared = shared;
-      key = key;
-    }))
-    (count key)) (count shared)) (count bit)) (count mult)) (party_count parties)) (seed_of seed)
-deal_words words = None
-
-abbrev pub local_words : Option Bristol → Option Text → List Text → Option Request
-local_words bristol dealer (circuit ∷ values ∷ seed ∷ []) =
-    option_map (λ seed. local (record {
-      circuit = circuit;
-      values = values;
-      seed = seed;
-      bristol = bristol;
-      dealer = dealer;
-    })) (seed_of seed)
-local_words bristol dealer words = None
-
-abbrev pub request_for : Command → LineTexts → Option Request
-request_for Plain line =
-    option_and_then (λ bristol. plain_words bristol line.words) (bristol_for line.sharing line.parties)
-request_for Needs line =
-    option_and_then (λ bristol. needs_words bristol line.words) (bristol_for line.sharing line.parties)
-request_for Deal line = deal_words line.words
-request_for Local line =
-    option_and_then (λ bristol. local_words bristol line.dealer line.words)
-    (bristol_for line.sharing line.parties)
-
--- The whole reading.
-
-abbrev pub line_request : List Offer → Command → List Text → Option Request
-line_request offers command words =
-    option_and_then (λ pieces. option_and_then (request_for command) (line_for offers command pieces))
-    (cut Between words)
-
-abbrev pub reading : List Offer → List Text → Option Request
-reading offers [] = None
-reading offers (w ∷ words) =
-    option_and_then (λ command. if is_offered offers command then line_request offers command words else None)
-    (command_named w)
+pub record Means (command : Command) (pieces : List Piece) (said : Said) : Type 0 where
+  pub words : meanings (kinds command) (words_of pieces) ≡ Some said.words
+  pub options : (o : OptionName) → said_by (option_row o).kind (value_given o pieces) ≡ Some (said.option o)
 
 -- What the code keeps of a line.
 
@@ -228,11 +142,3 @@ spelling_of (Joined value) = Some value.now
 
 abbrev pub next_of : Stepped → Next
 next_of out = record { piece = option_map piece_of out.piece; state = out.state }
-
-abbrev pub line_of : Line → LineTexts
-line_of line = record {
-  words = referents line.words.items;
-  sharing = option_copied line.sharing;
-  parties = option_copied line.parties;
-  dealer = option_copied line.dealer;
-}

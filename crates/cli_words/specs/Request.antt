@@ -1,11 +1,12 @@
 -- What a whole line of words asks for.
-use Rattle.std.specs.Prelude.{ℕ, List, [], ◌∷◌, Option, None, option_map, string_bytes}
-use Rattle.cli_words.specs.Table.{Text, Meaning, name, seed, sharing, number}
+use Rattle.std.specs.Prelude.{ℕ, List, slice_get, Option, Some, None, option_map, option_and_then, string_bytes}
+use Rattle.share_types.specs.declared.sharing.Sharing.{Sharing}
+use Rattle.text_lines.specs.Text.{Text}
+use Rattle.cli_words.specs.Table.{Meaning, name, seed, sharing, parties, number}
 use Rattle.cli_words.specs.declared.table.Command.{Command}
 use Rattle.cli_words.specs.declared.table.Command.TheVariants.{Plain, Needs, Deal, Local}
 use Rattle.cli_words.specs.declared.table.OptionName.{OptionName}
 use Rattle.cli_words.specs.declared.table.OptionName.TheVariants.{As, Parties, Dealer}
-use Rattle.cli_words.specs.declared.table.Sharing.{Sharing}
 use Rattle.cli_words.specs.declared.words.CommandWords.{CommandWords}
 use Rattle.cli_words.specs.declared.words.CommandWords.TheVariants as words
 use Rattle.cli_words.specs.declared.words.BristolWords.{BristolWords}
@@ -60,32 +61,124 @@ command_of (needs r) = Needs
 command_of (deal r) = Deal
 command_of (local r) = Local
 
--- what the command's words have to say, in order
-abbrev pub positional_of : Request → List Meaning
-positional_of (plain r) = name r.circuit ∷ name r.values ∷ []
-positional_of (needs r) = name r.circuit ∷ []
-positional_of (deal r) =
-    name r.prefix ∷ seed r.seed ∷ number r.parties
-    ∷ number r.mult ∷ number r.bit ∷ number r.shared ∷ number r.key ∷ []
-positional_of (local r) = name r.circuit ∷ name r.values ∷ seed r.seed ∷ []
+-- What the words of a line say: the positional ones in order, and each option that is there.
+pub record Said : Type 0 where
+  pub words : List Meaning
+  pub option : OptionName → Option Meaning
 
-abbrev pub bristol_in : Request → Option Bristol
-bristol_in (plain r) = r.bristol
-bristol_in (needs r) = r.bristol
-bristol_in (deal r) = None
-bristol_in (local r) = r.bristol
+-- What one of them says as a name, and so on.
 
-abbrev pub dealer_in : Request → Option Text
-dealer_in (local r) = r.dealer
-dealer_in (plain r) = None
-dealer_in (needs r) = None
-dealer_in (deal r) = None
+abbrev pub as_name : Meaning → Option Text
+as_name (name text) = Some text
+as_name _ = None
 
--- what an option has to say, and none where it must not be there
-abbrev pub option_of : OptionName → Request → Option Meaning
-option_of As request = option_map (λ b. sharing b.sharing) (bristol_in request)
-option_of Parties request = option_map (λ b. number b.parties) (bristol_in request)
-option_of Dealer request = option_map name (dealer_in request)
+abbrev pub as_seed : Meaning → Option (List ℕ)
+as_seed (seed bytes) = Some bytes
+as_seed _ = None
+
+abbrev pub as_sharing : Meaning → Option Sharing
+as_sharing (sharing way) = Some way
+as_sharing _ = None
+
+abbrev pub as_parties : Meaning → Option ℕ
+as_parties (parties n) = Some n
+as_parties _ = None
+
+abbrev pub as_number : Meaning → Option ℕ
+as_number (number n) = Some n
+as_number _ = None
+
+-- the word at a place, read so
+abbrev pub word_as : {X : Type 0} → (Meaning → Option X) → Said → ℕ → Option X
+word_as reads said at = option_and_then reads (slice_get said.words at)
+
+-- an option is not there, or is read so
+abbrev pub option_as : {X : Type 0} → (Meaning → Option X) → Option Meaning → Option (Option X)
+option_as reads None = Some None
+option_as reads (Some meaning) = option_map (λ x. Some x) (reads meaning)
+
+-- both options of a Bristol text are there, or neither
+abbrev pub both_of : Option Sharing → Option ℕ → Option (Option Bristol)
+both_of None None = Some None
+both_of (Some way) (Some n) = Some (Some (record { sharing = way; parties = n }))
+both_of None (Some n) = None
+both_of (Some way) None = None
+
+abbrev pub bristol_said : Said → Option (Option Bristol)
+bristol_said said =
+    option_and_then (λ way.
+    option_and_then (λ n. both_of way n)
+    (option_as as_parties (said.option Parties)))
+    (option_as as_sharing (said.option As))
+
+-- What the words of each command ask for.
+
+abbrev pub plain_said : Said → Option PlainRequest
+plain_said said =
+    option_and_then (λ circuit.
+    option_and_then (λ values.
+    option_map (λ bristol. record { circuit = circuit; values = values; bristol = bristol })
+    (bristol_said said))
+    (word_as as_name said 1))
+    (word_as as_name said 0)
+
+abbrev pub needs_said : Said → Option NeedsRequest
+needs_said said =
+    option_and_then (λ circuit.
+    option_map (λ bristol. record { circuit = circuit; bristol = bristol })
+    (bristol_said said))
+    (word_as as_name said 0)
+
+abbrev pub deal_said : Said → Option DealRequest
+deal_said said =
+    option_and_then (λ prefix.
+    option_and_then (λ seed.
+    option_and_then (λ parties.
+    option_and_then (λ mult.
+    option_and_then (λ bit.
+    option_and_then (λ shared.
+    option_map (λ key. record {
+      prefix = prefix;
+      seed = seed;
+      parties = parties;
+      mult = mult;
+      bit = bit;
+      shared = shared;
+      key = key;
+    })
+    (word_as as_number said 6))
+    (word_as as_number said 5))
+    (word_as as_number said 4))
+    (word_as as_number said 3))
+    (word_as as_parties said 2))
+    (word_as as_seed said 1))
+    (word_as as_name said 0)
+
+abbrev pub local_said : Said → Option LocalRequest
+local_said said =
+    option_and_then (λ circuit.
+    option_and_then (λ values.
+    option_and_then (λ seed.
+    option_and_then (λ bristol.
+    option_map (λ dealer. record {
+      circuit = circuit;
+      values = values;
+      seed = seed;
+      bristol = bristol;
+      dealer = dealer;
+    })
+    (option_as as_name (said.option Dealer)))
+    (bristol_said said))
+    (word_as as_seed said 2))
+    (word_as as_name said 1))
+    (word_as as_name said 0)
+
+-- what a line of a command asks for, by what its words say
+abbrev pub request_said : Command → Said → Option Request
+request_said Plain said = option_map plain (plain_said said)
+request_said Needs said = option_map needs (needs_said said)
+request_said Deal said = option_map deal (deal_said said)
+request_said Local said = option_map local (local_said said)
 
 -- What the code keeps of the words.
 

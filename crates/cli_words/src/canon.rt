@@ -1,14 +1,16 @@
-//! A line that the pass has accepted goes through one simple `clap` command.
+//! Words that the pass has accepted go through one simple `clap` command.
 
-ghost use Rattle.std.specs.Prelude.{◌≡◌, ◌++◌, map, IfOk, OnOk, Some, List, ℕ};
+ghost use Rattle.std.specs.Prelude.{◌≡◌, ◌++◌, List, string_bytes, IfOk, OnOk};
 ghost use Rattle.std.specs.Option.{option_copied};
-ghost use Rattle.clap.specs.Words.{app_of, with_rule, found_of, first_value};
+ghost use Rattle.clap.specs.Words.{app_of, with_rule, HasMatchesOf};
+ghost use Rattle.cli_words.specs.Table.{called, row_words};
+ghost use Rattle.cli_words.specs.Grammar as grammar;
 ghost use Rattle.cli_words.specs.Grammar.{texts};
-ghost use Rattle.cli_words.specs.Canon.{app_for, bare_app, option_rule, word_rule, with_options, with_words, option_words, canonical, Fits};
-ghost use Rattle.cli_words.specs.Pass.{LineTexts, line_of, referents};
+ghost use Rattle.cli_words.specs.Canon.{app_for, bare_app, option_rule, word_rule, with_options, with_words, option_word, option_words, canonical, Fits};
+ghost use Rattle.cli_words.specs.Pass.{pieces_of, referents};
 
-use crate::pass::Line;
-use crate::table::{Command, OptionName};
+use crate::pass::{Piece, value_given, words_of};
+use crate::table::{Command, Kind, OptionName};
 use clap::error::ErrorKind;
 use clap::{Arg, ArgMatches};
 use mot_base::NoMemory;
@@ -57,7 +59,7 @@ fn with_options<'a>(
 {
     let mut command = command;
     for option in options {
-        command = with_option(alloc, command, option.name())?;
+        command = with_option(alloc, command, option.row().name)?;
     }
     Ok(command)
 }
@@ -65,13 +67,14 @@ fn with_options<'a>(
 fn with_words<'a>(
     alloc: Global,
     command: clap::Command<'a>,
-    ids: &[&'static str],
+    words: &[(&'static str, Kind)],
 ) -> Result<clap::Command<'a>, AllocError>
-    ensures { IfOk result (λ r. app_of r ≡ with_words (app_of command.entry) (referents ids.entry.now)) }
+    ensures { IfOk result (λ r. app_of r
+        ≡ with_words (app_of command.entry) (called (row_words words.entry.now))) }
 {
     let mut command = command;
-    for id in ids {
-        command = with_word(alloc, command, *id)?;
+    for word in words {
+        command = with_word(alloc, command, word.0)?;
     }
     Ok(command)
 }
@@ -80,40 +83,36 @@ fn with_words<'a>(
 fn command_for<'a>(alloc: Global, command: Command) -> Result<clap::Command<'a>, AllocError>
     ensures { IfOk result (λ r. app_of r ≡ app_for command) }
 {
+    let row = command.row();
     let bare = bare_command(alloc);
-    let with_all_options = with_options(alloc, bare, command.options())?;
-    let whole = with_words(alloc, with_all_options, command.ids())?;
+    let with_all_options = with_options(alloc, bare, row.options)?;
+    let whole = with_words(alloc, with_all_options, row.words)?;
     Ok(whole)
 }
 
-/// Puts an option that is there behind the words.
-fn push_option(
-    alloc: Global,
-    words: &mut Vec<String>,
-    option: OptionName,
-    value: Option<&str>,
-) -> Result<(), NoMemory>
-    ensures { OnOk result
-        (texts words.new.items ≡ texts words.old.items ++ option_words option (option_copied value.entry)) }
+/// An option with its value, or with the empty one.
+fn option_word(alloc: Global, option: OptionName, value: Option<&str>) -> Result<String, NoMemory>
+    ensures { IfOk result (λ word. string_bytes word ≡ option_word option (option_copied value.entry)) }
 {
-    if let Some(value) = value {
-        let flag = option.flag();
-        words.push(format!(in alloc; "{flag}={value}")?)?;
-    }
-    Ok(())
+    let flag = option.row().flag;
+    let value = value.unwrap_or("");
+    Ok(format!(in alloc; "{flag}={value}")?)
 }
 
-/// The line as a canonical list: each option as `--name=value`, `--`, the positional words.
-pub(crate) fn canonical(alloc: Global, line: &Line<'_>) -> Result<Vec<String>, NoMemory>
-    ensures { IfOk result (λ words. texts words.items ≡ canonical (line_of line.entry.now)) }
+/// Puts these options behind the words.
+fn push_options(
+    alloc: Global,
+    words: &mut Vec<String>,
+    options: &[OptionName],
+    pieces: &[Piece<'_>],
+) -> Result<(), NoMemory>
+    ensures { OnOk result (texts words.new.items
+        ≡ texts words.old.items ++ option_words options.entry.now (pieces_of pieces.entry.now)) }
 {
-    let mut words = Vec::new(alloc);
-    push_option(alloc, &mut words, OptionName::As, line.sharing)?;
-    push_option(alloc, &mut words, OptionName::Parties, line.parties)?;
-    push_option(alloc, &mut words, OptionName::Dealer, line.dealer)?;
-    words.push(String::from_str(alloc, "--")?)?;
-    push_words(alloc, &mut words, line.words.as_slice())?;
-    Ok(words)
+    for option in options {
+        words.push(option_word(alloc, *option, value_given(pieces, *option))?)?;
+    }
+    Ok(())
 }
 
 /// Puts more words behind the words.
@@ -126,51 +125,37 @@ fn push_words(alloc: Global, words: &mut Vec<String>, more: &[&str]) -> Result<(
     Ok(())
 }
 
-/// What `clap` makes of the canonical list of a line: the same line.
+/// The pieces of a line as a canonical list: each option of the command as `--name=value`, `--`, and the
+/// positional words.
+pub(crate) fn canonical(
+    alloc: Global,
+    command: Command,
+    pieces: &[Piece<'_>],
+) -> Result<Vec<String>, NoMemory>
+    ensures { IfOk result (λ words. texts words.items ≡ canonical command (pieces_of pieces.entry.now)) }
+{
+    let mut words = Vec::new(alloc);
+    push_options(alloc, &mut words, command.row().options, pieces)?;
+    words.push(String::from_str(alloc, "--")?)?;
+    let positional = words_of(alloc, pieces)?;
+    push_words(alloc, &mut words, positional.as_slice())?;
+    Ok(words)
+}
+
+/// What `clap` makes of the canonical list of a line. It refuses it for want of memory alone.
 pub(crate) fn through_clap<'a>(
     alloc: Global,
     command: Command,
     words: &'a [String],
-) -> Result<Line<'a>, NoMemory>
-    requires { (line : LineTexts) × Fits command line × (texts words.now ≡ canonical line) }
-    ensures { IfOk result (λ through.
-        (line : LineTexts) → Fits command line → texts words.entry.now
-        ≡ canonical line → line_of through ≡ line) }
+) -> Result<ArgMatches<'a>, NoMemory>
+    requires { (pieces : List grammar.Piece) × Fits command pieces × (texts words.now ≡ canonical command pieces) }
+    ensures { IfOk result (λ matches. HasMatchesOf (app_for command) (texts words.entry.now) matches) }
 {
-    let matches = match command_for(alloc, command)?.try_get_matches_from(words) {
-        Ok(matches) => matches,
+    match command_for(alloc, command)?.try_get_matches_from(words) {
+        Ok(matches) => Ok(matches),
         Err(error) => match error.kind() {
-            ErrorKind::OutOfMemory => return Err(NoMemory),
+            ErrorKind::OutOfMemory => Err(NoMemory),
             _ => unreachable!(),
         },
-    };
-    let words = words_in(alloc, &matches, command.ids())?;
-    Ok(Line {
-        words,
-        sharing: matches.get_str("as"),
-        parties: matches.get_str("parties"),
-        dealer: matches.get_str("dealer"),
-    })
-}
-
-/// The values of these ids, which are all there.
-fn words_in<'a>(
-    alloc: Global,
-    matches: &ArgMatches<'a>,
-    ids: &[&str],
-) -> Result<Vec<&'a str>, NoMemory>
-    requires { (words : List (List ℕ))
-        × (map (first_value (found_of matches.now)) (referents ids.now) ≡ map Some words) }
-    ensures { IfOk result (λ words.
-        map Some (referents words.items)
-        ≡ map (first_value (found_of matches.entry.now)) (referents ids.entry.now)) }
-{
-    let mut words = Vec::new(alloc);
-    for id in ids {
-        let Some(word) = matches.get_str(id) else {
-            unreachable!()
-        };
-        words.push(word)?;
     }
-    Ok(words)
 }

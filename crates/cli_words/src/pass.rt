@@ -1,12 +1,13 @@
 //! The pass over the words, which decides whether they are in the grammar.
 
-ghost use Rattle.std.specs.Prelude.{◌≡◌, ◌++◌, ◌∷◌, [], OnOk, Some, None, option_map, IfOk, IfErr, IsErrOf};
+ghost use Rattle.std.specs.Prelude.{◌≡◌, ◌++◌, ◌∷◌, [], length, OnOk, Some, None, option_map, IfOk, IfErr, IsErrOf};
 ghost use Rattle.std.specs.Option.{option_copied};
 ghost use Rattle.cli_words.specs.Grammar.{texts, given, words_of};
-ghost use Rattle.cli_words.specs.Pass.{rest_after, rest_spelling, spelling, spelling_of, step, first_step, option_step, next_of, begun, cut, pieces_of, piece_of, allowed, is_plain, line_for, line_of, value_for, referents};
+ghost use Rattle.cli_words.specs.Pass.{rest_after, rest_spelling, spelling, spelling_of, step, first_step, option_step, options_step, next_of, begun, cut, pieces_of, piece_of, is_allowed, are_allowed, is_taken, value_given, is_plain, referents};
 
 use crate::WordsError;
 use crate::table::{Command, Offer, OptionName, takes_option};
+use mot_base::NoMemory;
 use std::alloc::Global;
 
 /// A part of a line of words.
@@ -44,15 +45,6 @@ enum Spelt<'a> {
     Joined(&'a str),
 }
 
-/// The words of a line: the positional ones, and the value of each option.
-#[derive(Drop)]
-pub(crate) struct Line<'a> {
-    pub words: Vec<&'a str>,
-    pub sharing: Option<&'a str>,
-    pub parties: Option<&'a str>,
-    pub dealer: Option<&'a str>,
-}
-
 /// Whether a word is not empty, and taken neither for an option nor for `--`.
 fn is_plain(word: &str) -> bool
     ensures { result ≡ is_plain word.now }
@@ -68,7 +60,7 @@ fn is_plain(word: &str) -> bool
 fn spelling<'a>(option: OptionName, word: &'a str) -> Option<Spelt<'a>>
     ensures { option_map spelling_of result ≡ spelling option word.now }
 {
-    match rest_after(option.flag(), word) {
+    match rest_after(option.row().flag, word) {
         Some(rest) => rest_spelling(rest),
         None => None,
     }
@@ -129,9 +121,19 @@ fn first_step<'a>(word: &'a str) -> Option<Stepped<'a>>
             state: State::Behind,
         });
     }
-    option_step(OptionName::As, word)
-        .or(option_step(OptionName::Parties, word))
-        .or(option_step(OptionName::Dealer, word))
+    options_step(OptionName::all(), word)
+}
+
+/// What a word comes to that spells one of these options.
+fn options_step<'a>(options: &[OptionName], word: &'a str) -> Option<Stepped<'a>>
+    ensures { option_map next_of result ≡ options_step options.now word.now }
+{
+    for option in options {
+        if let Some(next) = option_step(*option, word) {
+            return Some(next);
+        }
+    }
+    None
 }
 
 /// What the next word comes to. There is none where no line goes on with it.
@@ -186,35 +188,41 @@ fn keep<'a>(pieces: &mut Vec<Piece<'a>>, piece: Option<Piece<'a>>) -> Result<(),
     Ok(())
 }
 
-/// The value that is given to an option: at most once, and only where the option is taken.
-fn given<'a>(
-    pieces: &[Piece<'a>],
-    option: OptionName,
-    takes: bool,
-) -> Result<Option<&'a str>, WordsError>
-    ensures ok { IfOk result (λ value.
-        allowed takes (given option (pieces_of pieces.entry.now)) ≡ Some (option_copied value)) }
-    ensures err { IfErr result (λ error.
-        (error ≡ WordsError.Usage) × (allowed takes (given option (pieces_of pieces.entry.now)) ≡ None)) }
+/// Whether an option is not there, or is there once, where it is taken.
+fn is_allowed(pieces: &[Piece<'_>], option: OptionName, takes: bool) -> bool
+    ensures { result ≡ is_allowed takes (given option (pieces_of pieces.now)) }
 {
-    let mut found = None;
+    let mut found = false;
+    for piece in pieces {
+        if let Piece::Option(name, _) = piece
+            && option.is(*name)
+        {
+            if !takes || found {
+                return false;
+            }
+            found = true;
+        }
+    }
+    true
+}
+
+/// The value that is given to an option.
+pub(crate) fn value_given<'a>(pieces: &[Piece<'a>], option: OptionName) -> Option<&'a str>
+    ensures { option_copied result ≡ value_given option (pieces_of pieces.now) }
+{
     for piece in pieces {
         if let Piece::Option(name, value) = piece
             && option.is(*name)
         {
-            if !takes || found.is_some() {
-                return Err(WordsError::Usage);
-            }
-            found = Some(*value);
+            return Some(*value);
         }
     }
-    Ok(found)
+    None
 }
 
 /// The positional words.
-fn words_of<'a>(alloc: Global, pieces: &[Piece<'a>]) -> Result<Vec<&'a str>, WordsError>
-    ensures ok { IfOk result (λ words. referents words.items ≡ words_of (pieces_of pieces.entry.now)) }
-    ensures err { IfErr result (λ error. error ≡ WordsError.NoMemory) }
+pub(crate) fn words_of<'a>(alloc: Global, pieces: &[Piece<'a>]) -> Result<Vec<&'a str>, NoMemory>
+    ensures { IfOk result (λ words. referents words.items ≡ words_of (pieces_of pieces.entry.now)) }
 {
     let mut words = Vec::new(alloc);
     for piece in pieces {
@@ -224,10 +232,9 @@ fn words_of<'a>(alloc: Global, pieces: &[Piece<'a>]) -> Result<Vec<&'a str>, Wor
 }
 
 /// Puts a positional word behind the words, where the piece is one.
-fn keep_word<'a>(words: &mut Vec<&'a str>, piece: Piece<'a>) -> Result<(), WordsError>
-    ensures ok { OnOk result
+fn keep_word<'a>(words: &mut Vec<&'a str>, piece: Piece<'a>) -> Result<(), NoMemory>
+    ensures { OnOk result
         (referents words.new.items ≡ referents words.old.items ++ words_of (piece_of piece.entry ∷ [])) }
-    ensures err { IfErr result (λ error. error ≡ WordsError.NoMemory) }
 {
     if let Piece::Word(word) = piece {
         words.push(word)?;
@@ -235,44 +242,33 @@ fn keep_word<'a>(words: &mut Vec<&'a str>, piece: Piece<'a>) -> Result<(), Words
     Ok(())
 }
 
-/// The value that is given to an option of a command.
-fn value_for<'a>(
-    offers: &[Offer],
-    command: Command,
-    pieces: &[Piece<'a>],
-    option: OptionName,
-) -> Result<Option<&'a str>, WordsError>
-    ensures ok { IfOk result (λ value.
-        value_for offers.entry.now command (pieces_of pieces.entry.now) option ≡ Some (option_copied value)) }
-    ensures err { IfErr result (λ error. (error ≡ WordsError.Usage)
-        × (value_for offers.entry.now command (pieces_of pieces.entry.now) option ≡ None)) }
+/// How many positional words there are.
+fn count_words(pieces: &[Piece<'_>]) -> usize
+    ensures { result ≡ length (words_of (pieces_of pieces.now)) }
 {
-    given(pieces, option, takes_option(offers, command, option))
+    let mut count = 0;
+    for piece in pieces {
+        if let Piece::Word(_) = piece {
+            count += 1;
+        }
+    }
+    count
 }
 
-/// The line that the pieces make, where the command takes it.
-pub(crate) fn line_for<'a>(
-    alloc: Global,
-    offers: &[Offer],
-    command: Command,
-    pieces: &[Piece<'a>],
-) -> Result<Line<'a>, WordsError>
-    ensures ok { IfOk result (λ line.
-        line_for offers.entry.now command (pieces_of pieces.entry.now) ≡ Some (line_of line)) }
-    ensures err { IsErrOf result WordsError.Usage →
-        line_for offers.entry.now command (pieces_of pieces.entry.now) ≡ None }
+/// Whether the command takes the pieces: each option at most once, and only where it is taken, and as many words
+/// as its row has.
+pub(crate) fn is_taken(offers: &[Offer], command: Command, pieces: &[Piece<'_>]) -> bool
+    ensures { result ≡ is_taken offers.now command (pieces_of pieces.now) }
 {
-    let sharing = value_for(offers, command, pieces, OptionName::As)?;
-    let parties = value_for(offers, command, pieces, OptionName::Parties)?;
-    let dealer = value_for(offers, command, pieces, OptionName::Dealer)?;
-    let words = words_of(alloc, pieces)?;
-    if words.len() != command.ids().len() {
-        return Err(WordsError::Usage);
-    }
-    Ok(Line {
-        words,
-        sharing,
-        parties,
-        dealer,
-    })
+    are_allowed(offers, command, pieces) && count_words(pieces) == command.row().words.len()
+}
+
+fn are_allowed(offers: &[Offer], command: Command, pieces: &[Piece<'_>]) -> bool
+    ensures { result ≡ are_allowed offers.now command (pieces_of pieces.now) }
+{
+    OptionName::all().iter().all(|option| is_allowed(
+        pieces,
+        *option,
+        takes_option(offers, command, *option),
+    ))
 }

@@ -1,15 +1,19 @@
-ghost use Rattle.std.specs.Prelude.{◌≡◌, true, IfOk, IsErrOf};
-ghost use Rattle.cli_words.specs.Canon.{canonical};
-ghost use Rattle.cli_words.specs.Pass.{LineTexts, IsLine};
-ghost use Rattle.cli_words.specs.Grammar.{Asks, AsksAs, IsNamed, is_offered, texts};
-ghost use Rattle.cli_words.specs.Laws.{AsksForOne, IsReadOrRefused, IsAbsentUnlessRun};
-ghost use Rattle.cli_words.specs.Request.{Request, plain, needs, deal, local, request_of, plain_request, needs_request, deal_request, local_request};
+//! The reading of words.
+
+ghost use Rattle.std.specs.Prelude.{◌≡◌, true, IfOk, IsErrOf, List};
+ghost use Rattle.cli_words.specs.Canon.{canonical, Fits};
+ghost use Rattle.cli_words.specs.Filled.{said_in};
+ghost use Rattle.cli_words.specs.Grammar.{Piece, Say, Asks, AsksAs, IsNamed, is_offered, texts};
+ghost use Rattle.cli_words.specs.Laws.{AsksForOne, IsReadOrRefused, AsksOfItsCommand, IsAbsentUnlessRun};
+ghost use Rattle.cli_words.specs.Pass.{IsLine, Means};
+ghost use Rattle.cli_words.specs.Request.{Request, Said, request_of};
 
 use crate::canon::{canonical, through_clap};
-use crate::pass::{cut, line_for};
-use crate::request::{deal_words, local_words, needs_words, plain_words};
+use crate::fill::{Filled, line_found};
+use crate::pass::{cut, is_taken};
+use crate::request::request;
 use crate::table::{Command, Offer, is_offered};
-use crate::words::{CommandWords, DealWords, LocalWords, NeedsWords, PlainWords};
+use crate::words::CommandWords;
 use mot_base::NoMemory;
 use std::alloc::{AllocError, AllocFailed, Global};
 use thiserror::Error;
@@ -78,91 +82,25 @@ pub fn read_words(
     let Some(command) = Command::named(name.as_str()) else {
         return Err(WordsError::Usage);
     };
-    read_line(alloc, offers, command, rest)
+    read_behind(alloc, offers, command, rest)
 }
 
-/// Reads the words after a command's name.
-fn read_line(
+/// Reads the words after a command's name, as `read_words` does with that name in front of them.
+pub fn read_behind(
     alloc: Global,
     offers: &[Offer],
     command: Command,
     words: &[String],
 ) -> Result<CommandWords, WordsError>
-    ensures read { IfOk result (λ request. AsksAs offers.now command (texts words.now) (request_of request)) }
+    ensures read { IfOk result (λ request.
+        AsksAs offers.now command (texts words.now) (request_of request)) }
     ensures refused { IsErrOf result WordsError.Usage →
         (request : Request) → ¬ (AsksAs offers.now command (texts words.now) request) }
     ensures no_memory { IsErrOf result WordsError.NoMemory → is_offered offers.now command ≡ true }
 {
-    match command {
-        Command::Plain => Ok(CommandWords::Plain(read_plain(alloc, offers, words)?)),
-        Command::Needs => Ok(CommandWords::Needs(read_needs(alloc, offers, words)?)),
-        Command::Deal => Ok(CommandWords::Deal(read_deal(alloc, offers, words)?)),
-        Command::Local => Ok(CommandWords::Local(read_local(alloc, offers, words)?)),
-    }
-}
-
-/// Reads the words after `plain`, as `read_words` does with that name in front of them.
-pub fn read_plain(
-    alloc: Global,
-    offers: &[Offer],
-    words: &[String],
-) -> Result<PlainWords, WordsError>
-    ensures read { IfOk result (λ read.
-        AsksAs offers.now Command.Plain (texts words.now) (plain (plain_request read))) }
-    ensures refused { IsErrOf result WordsError.Usage →
-        (request : Request) → ¬ (AsksAs offers.now Command.Plain (texts words.now) request) }
-    ensures no_memory { IsErrOf result WordsError.NoMemory → is_offered offers.now Command.Plain ≡ true }
-{
-    let list = canonical_line(alloc, offers, Command::Plain, words)?;
-    let line = through_clap(alloc, Command::Plain, list.as_slice())?;
-    plain_words(alloc, &line)
-}
-
-/// Reads the words after `needs`, as `read_words` does with that name in front of them.
-pub fn read_needs(
-    alloc: Global,
-    offers: &[Offer],
-    words: &[String],
-) -> Result<NeedsWords, WordsError>
-    ensures read { IfOk result (λ read.
-        AsksAs offers.now Command.Needs (texts words.now) (needs (needs_request read))) }
-    ensures refused { IsErrOf result WordsError.Usage →
-        (request : Request) → ¬ (AsksAs offers.now Command.Needs (texts words.now) request) }
-    ensures no_memory { IsErrOf result WordsError.NoMemory → is_offered offers.now Command.Needs ≡ true }
-{
-    let list = canonical_line(alloc, offers, Command::Needs, words)?;
-    let line = through_clap(alloc, Command::Needs, list.as_slice())?;
-    needs_words(alloc, &line)
-}
-
-/// Reads the words after `deal`, as `read_words` does with that name in front of them.
-pub fn read_deal(alloc: Global, offers: &[Offer], words: &[String]) -> Result<DealWords, WordsError>
-    ensures read { IfOk result (λ read.
-        AsksAs offers.now Command.Deal (texts words.now) (deal (deal_request read))) }
-    ensures refused { IsErrOf result WordsError.Usage →
-        (request : Request) → ¬ (AsksAs offers.now Command.Deal (texts words.now) request) }
-    ensures no_memory { IsErrOf result WordsError.NoMemory → is_offered offers.now Command.Deal ≡ true }
-{
-    let list = canonical_line(alloc, offers, Command::Deal, words)?;
-    let line = through_clap(alloc, Command::Deal, list.as_slice())?;
-    deal_words(alloc, &line)
-}
-
-/// Reads the words after `local`, as `read_words` does with that name in front of them.
-pub fn read_local(
-    alloc: Global,
-    offers: &[Offer],
-    words: &[String],
-) -> Result<LocalWords, WordsError>
-    ensures read { IfOk result (λ read.
-        AsksAs offers.now Command.Local (texts words.now) (local (local_request read))) }
-    ensures refused { IsErrOf result WordsError.Usage →
-        (request : Request) → ¬ (AsksAs offers.now Command.Local (texts words.now) request) }
-    ensures no_memory { IsErrOf result WordsError.NoMemory → is_offered offers.now Command.Local ≡ true }
-{
-    let list = canonical_line(alloc, offers, Command::Local, words)?;
-    let line = through_clap(alloc, Command::Local, list.as_slice())?;
-    local_words(alloc, &line)
+    let list = canonical_line(alloc, offers, command, words)?;
+    let line = said(alloc, command, list.as_slice())?;
+    request(alloc, command, &line)
 }
 
 /// The canonical list of the words after the name of a command.
@@ -172,18 +110,32 @@ fn canonical_line(
     command: Command,
     words: &[String],
 ) -> Result<Vec<String>, WordsError>
-    ensures ok { IfOk result (λ list. (line : LineTexts)
-        × IsLine offers.now command (texts words.now) line × (texts list.items ≡ canonical line)) }
+    ensures ok { IfOk result (λ list. (pieces : List Piece)
+        × IsLine offers.now command (texts words.now) pieces × (texts list.items ≡ canonical command pieces)) }
     ensures refused { IsErrOf result WordsError.Usage →
-        (request : Request) → ¬ (AsksAs offers.now command (texts words.now) request) }
+        (said : Said) → ¬ (Say offers.now command (texts words.now) said) }
     ensures no_memory { IsErrOf result WordsError.NoMemory → is_offered offers.now command ≡ true }
 {
     if !is_offered(offers, command) {
         return Err(WordsError::Usage);
     }
     let pieces = cut(alloc, words)?;
-    let line = line_for(alloc, offers, command, pieces.as_slice())?;
-    Ok(canonical(alloc, &line)?)
+    if !is_taken(offers, command, pieces.as_slice()) {
+        return Err(WordsError::Usage);
+    }
+    Ok(canonical(alloc, command, pieces.as_slice())?)
+}
+
+/// What the canonical list of a line says.
+fn said<'a>(alloc: Global, command: Command, list: &'a [String]) -> Result<Filled<'a>, WordsError>
+    requires { (pieces : List Piece) × Fits command pieces × (texts list.now ≡ canonical command pieces) }
+    ensures ok { IfOk result (λ line. (pieces : List Piece) → Fits command pieces →
+        texts list.entry.now ≡ canonical command pieces → Means command pieces (said_in line)) }
+    ensures refused { IsErrOf result WordsError.Usage → (pieces : List Piece) → Fits command pieces →
+        texts list.entry.now ≡ canonical command pieces → (said : Said) → ¬ (Means command pieces said) }
+{
+    let matches = through_clap(alloc, command, list)?;
+    line_found(alloc, command, &matches)
 }
 
 /// Words ask for one request at most.
@@ -196,7 +148,12 @@ pub fn words_are_read_or_refused()
     ensures { IsReadOrRefused }
 {}
 
-/// An option that is not run with the command is not there.
+/// The words behind the name of a command ask for a request of it.
+pub fn words_behind_a_name_ask_of_its_command()
+    ensures { AsksOfItsCommand }
+{}
+
+/// An option that is not run with the command says nothing.
 pub fn options_are_absent_unless_run()
     ensures { IsAbsentUnlessRun }
 {}

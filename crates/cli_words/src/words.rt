@@ -1,10 +1,11 @@
 //! What words ask for, each command's as a struct of its own.
 
-ghost use Rattle.std.specs.Prelude.{◌≤◌};
+ghost use Rattle.std.specs.Prelude.{◌≤◌, ◌≢◌};
 ghost use Rattle.mot_base.specs.Limits.{least_parties, most_parties};
+ghost use Rattle.share_types.specs.declared.sharing.Sharing.TheVariants.{A};
 
-use crate::table::Sharing;
 use mot_base::Seed;
+use share_types::Sharing;
 
 /// What a line of words asks for.
 #[derive(Debug, Drop)]
@@ -22,10 +23,11 @@ pub enum CommandWords {
 /// `--as` and `--parties`: the circuit is a Bristol text.
 #[derive(Clone, Copy, Debug)]
 pub struct BristolWords {
-    /// How its wires are shared.
+    /// How its wires are shared: by XOR, or as keys.
     pub sharing: Sharing,
     /// 2 to 8.
     pub parties: u8,
+    pub ghost vectors: { sharing ≢ A },
     pub ghost some: { least_parties ≤ parties },
     pub ghost most: { parties ≤ most_parties },
 }
@@ -84,4 +86,19 @@ pub struct LocalWords {
     pub bristol: Option<BristolWords>,
     /// What the names of the dealer parts begin with, where they are loaded.
     pub dealer: Option<String>,
+}
+
+/// How many parties there are.
+#[derive(Clone, Copy, Debug)]
+pub(crate) struct PartyCount {
+    pub count: u8,
+    pub ghost some: { least_parties ≤ count },
+    pub ghost most: { count ≤ most_parties },
+}
+
+/// How the wires of a Bristol text are shared.
+#[derive(Clone, Copy, Debug)]
+pub(crate) struct WireSharing {
+    pub sharing: Sharing,
+    pub ghost vectors: { sharing ≢ A },
 }

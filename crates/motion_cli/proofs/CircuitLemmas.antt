@@ -1,12 +1,10 @@
 -- Circuits of both languages.
-use Rattle.std.proofs.Common.{ℕ, zero, suc, ◌≡◌, ◌<◌, ◌≤◌, ◌++◌, Bool, true, false, cond, List, [], ◌∷◌, length, get_or, Option, Some, None, Result, Ok, Err, refl, sym, subst, ◌↔◌, arith}
+use Rattle.std.proofs.Common.{ℕ, zero, suc, ◌≡◌, ◌≢◌, ◌<◌, ◌≤◌, ◌++◌, Bool, true, false, not, cond, List, [], ◌∷◌, length, get_or, Option, Some, None, Result, Ok, Err, refl, sym, ap, subst, ◌↔◌, arith}
 use Rattle.std.specs.Prelude.{All, option_map, IfOk, IsErrOf}
 use Rattle.std.specs.Option.{unwrap_or}
 use Rattle.mot_base.specs.Limits.{most_gates, most_width}
 use Rattle.share_types.specs.declared.sharing.Sharing.{Sharing}
 use Rattle.share_types.specs.declared.sharing.Sharing.TheVariants as share
-use Rattle.cli_words.specs.declared.table.Sharing as word
-use Rattle.cli_words.specs.declared.table.Sharing.TheVariants.{B, Y}
 use Rattle.share_types.specs.declared.sharing.WireType.{WireType}
 use Rattle.circuit_tables.specs.Table.{Output}
 use Rattle.mixed_language.specs.Circuit as mixed
@@ -26,21 +24,25 @@ use Rattle.gate_plan.specs.Lowering.{all_built, lowered}
 use Rattle.gate_plan.specs.Bristol.{are_keys, all_bristol_gates, bristol_lowered}
 use Rattle.local_run.specs.Inputs.{TakesInputs}
 use Rattle.local_engine.proofs.Taking.{mixed_plans_take_inputs, bristol_plans_take_inputs}
-use Rattle.motion_cli.specs.Circuits.{sharing_of, is_shared_by_xor}
 
--- too many gates of a circuit in Bristol Fashion are told where its wires are shared by XOR
-pub told_by_xor : (s : word.Sharing) (given : Sharing) (c : Circuit) (Told : ℕ → Type 0) → given ≡ sharing_of s →
-    ((gates : ℕ) → Told gates ↔ ((given ≡ share.B) × (most_gates < all_bristol_gates (are_keys given) c) × (gates ≡ all_bristol_gates (are_keys given) c))) →
-    (gates : ℕ) → Told gates ↔
-    ((is_shared_by_xor s ≡ true) × (most_gates < all_bristol_gates (are_keys (sharing_of s)) c) × (gates ≡ all_bristol_gates (are_keys (sharing_of s)) c))
-told_by_xor s given c Told same tells gates =
-    by s (subst (λ (k : Sharing). (gates : ℕ) → Told gates ↔ ((k ≡ share.B) × (most_gates < all_bristol_gates (are_keys k) c) × (gates ≡ all_bristol_gates (are_keys k) c))) same tells gates)
+-- a circuit in Bristol Fashion is built where its wires are shared by XOR, and too many gates are told there
+pub unbuilt_keys : (s : Sharing) → (s ≡ share.Y) ↔ (not (are_keys s) ≡ false)
+unbuilt_keys share.A = ((λ e. cc), (λ e. cc))
+unbuilt_keys share.B = ((λ e. cc), (λ e. cc))
+unbuilt_keys share.Y = ((λ e. refl), (λ e. refl))
+
+pub told_by_xor : (s : Sharing) (c : Circuit) (Told : ℕ → Type 0) → s ≢ share.A →
+    ((gates : ℕ) → Told gates ↔ ((s ≡ share.B) × (most_gates < all_bristol_gates (are_keys s) c) × (gates ≡ all_bristol_gates (are_keys s) c))) →
+    (gates : ℕ) → Told gates ↔ ((not (are_keys s) ≡ true) × (most_gates < all_bristol_gates (are_keys s) c) × (gates ≡ all_bristol_gates (are_keys s) c))
+told_by_xor s c Told vectors tells gates = (
+  (λ h. let p = (tells gates).0 h in (ap (λ (k : Sharing). not (are_keys k)) p.0, p.1, p.2)),
+  (λ q. (tells gates).1 (by_xor s vectors q.0, q.1, q.2)),
+)
   where
-    by : (s : word.Sharing) →
-        Told gates ↔ ((sharing_of s ≡ share.B) × (most_gates < all_bristol_gates (are_keys (sharing_of s)) c) × (gates ≡ all_bristol_gates (are_keys (sharing_of s)) c)) →
-        Told gates ↔ ((is_shared_by_xor s ≡ true) × (most_gates < all_bristol_gates (are_keys (sharing_of s)) c) × (gates ≡ all_bristol_gates (are_keys (sharing_of s)) c))
-    by B told = ((λ h. let p = told.0 h in (refl, p.1, p.2)), (λ q. told.1 (refl, q.1, q.2)))
-    by Y told = ((λ h. let p = told.0 h in let is : share.Y ≡ share.B = p.0 in absurd cc), (λ q. let is : false ≡ true = q.0 in absurd cc))
+    by_xor : (s : Sharing) → s ≢ share.A → not (are_keys s) ≡ true → s ≡ share.B
+    by_xor share.A other e = absurd (other refl)
+    by_xor share.B other e = refl
+    by_xor share.Y other e = cc
 
 -- the outputs of a mixed circuit have at most 64 bits each
 width_there : (all : List Statement) (at : ℕ) → AllWide all → width_at all at ≤ most_width

@@ -6,7 +6,7 @@ use Rattle.std.proofs.lemmas.List.{length-append}
 use Rattle.std.proofs.lemmas.Option.{slice_get_within}
 use Rattle.mot_base.specs.Faults.{Rose}
 use Rattle.mot_base.specs.Files.{Holding}
-use Rattle.mot_base.proofs.Lists.{take_next, some_at, last_at as last_there, take_whole as taken_whole}
+use Rattle.mot_base.proofs.Lists.{take_next, some_at}
 use Rattle.dealer_files.specs.declared.fault.DealerError.{DealerError}
 use Rattle.dealer_files.specs.declared.fault.DealerError.TheVariants.{Short, Long, RecordBits}
 use Rattle.dealer_files.specs.declared.fault.DealerError.TheVariants as cause

@@ -1,5 +1,5 @@
 -- How files are stored one after another, and what `deal` comes to.
-use Rattle.std.proofs.Common.{ℕ, zero, suc, ◌-◌, ◌^◌, append_assoc, ◌≡◌, ◌≢◌, ◌<◌, ◌≤◌, ◌+◌, ◌⊎◌, inl, inr, Bool, true, false, List, [], ◌∷◌, ◌++◌, length, take, map, get_or, Option, Some, None, Result, Ok, Err, String, Global, refl, sym, ◌∙◌, ap, ap₂, subst, arith}
+use Rattle.std.proofs.Common.{ℕ, ◌-◌, ◌^◌, append_assoc, ◌≡◌, ◌≢◌, ◌<◌, ◌≤◌, ◌+◌, ◌⊎◌, inl, inr, Bool, true, false, List, [], ◌∷◌, ◌++◌, length, take, map, get_or, Option, Some, None, Result, Ok, Err, String, Global, refl, sym, ◌∙◌, ap, ap₂, subst, arith}
 use Rattle.std.specs.Prelude.{codes, slice_get, option_map, if◌then◌else◌, bytes_eq, nat_lt, All, IfErr}
 use Rattle.std.specs.Result.{IsErrAnd}
 use Rattle.std.specs.Prelude.{replicate}
@@ -14,7 +14,7 @@ use Rattle.mot_base.specs.Limits.{most_file_bytes}
 use Rattle.share_types.specs.declared.needs.Needs.{Needs}
 use Rattle.cli_words.specs.Request.{DealRequest}
 use Rattle.dealer_files.specs.Part.{Part, counts_of}
-use Rattle.mot_base.proofs.Lists.{take_next, read_at as item_there}
+use Rattle.mot_base.proofs.Lists.{take_next}
 use Rattle.text_lines.specs.Text.{Text}
 use Rattle.motion_cli.specs.declared.refusal.Refusal.{Refusal}
 use Rattle.motion_cli.specs.declared.refusal.Refusal.TheVariants.{Memory}

@@ -10,7 +10,7 @@ use Rattle.std.specs.Fmt.{digits}
 use Rattle.std.proofs.lemmas.List.{append-nil, length-append, drop-drop, length-drop, take_all}
 use Rattle.share_types.specs.Bits.{number}
 use Rattle.circuit_tables.specs.Table.{Output, Told, asked, is_asked, AreCut}
-use Rattle.mot_base.proofs.Lists.{take_next, some_at, last_at as last_there}
+use Rattle.mot_base.proofs.Lists.{take_next, some_at}
 use Rattle.text_lines.specs.Text.{Text}
 use Rattle.gate_tasks.specs.declared.report.PartyReport.{PartyReport}
 use Rattle.motion_cli.specs.declared.report.Notation.{Notation}

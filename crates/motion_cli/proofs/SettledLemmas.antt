@@ -25,8 +25,7 @@ use Rattle.bristol_reader.proofs.EvalLemmas.{same_outputs}
 use Rattle.bristol_reader.proofs.ReadCircuitLemmas.{reads_circuit}
 use Rattle.motion_cli.specs.declared.circuit.CircuitFault.{CircuitFault}
 use Rattle.motion_cli.specs.declared.circuit.CircuitFault.TheVariants as fault
-use Rattle.motion_cli.specs.Commands.{ReadsCircuit, ReadsInputs, Reports, LoadsBoth, HasTooMany, gates_refused, UnlessUnplanned, PlainReads, PlainEnds, NeedsReads, NeedsEnds, DealEnds, LocalReads, LocalTexts, LocalEnds, RequestEnds, request_files}
-use Rattle.motion_cli.specs.Ending.{no_files}
+use Rattle.motion_cli.specs.Commands.{ReadsCircuit, ReadsInputs, Reports, LoadsBoth, HasTooMany, gates_refused, UnlessUnplanned, PlainReads, NeedsReads, DealEnds, LocalReads, LocalTexts, RequestEnds, request_files}
 use Rattle.motion_cli.specs.Outcome.{Outcome, file_refused, circuit_refused, values_refused, reported, at_line, line}
 use Rattle.motion_cli.specs.Parts.{part_name, part_files, part_length, deal_files, deal_id, dealt_line}
 use Rattle.motion_cli.specs.Refusal.{circuit_cause, values_cause}
@@ -35,11 +34,11 @@ use Rattle.motion_cli.specs.Report.{output_lines, needs_report}
 use Rattle.motion_cli.specs.Run.{AreSound, owns_in}
 use Rattle.motion_cli.specs.Dealer.{part_names}
 use Rattle.cli_words.specs.Request.{Request, Bristol, PlainRequest, NeedsRequest, DealRequest, LocalRequest, plain, needs, deal, local}
-use Rattle.motion_cli.specs.Words.{AsksFor, AsksPlain, AsksNeeds, AsksDeal, AsksLocal}
+use Rattle.motion_cli.specs.Words.{AsksFor}
 use Rattle.motion_cli.proofs.PartsLemmas.{stored_files}
 use Rattle.motion_cli.proofs.StepLemmas.{Agree, Fair, Refuses, Gives, carried, refuses_so, file_refuses, circuit_refuses, gates_refuses, values_refuses, one_fault, loads_agree, loads_fair, reads_agree, reads_fair, unless_agree, unless_fair, stores_agree, stores_fair}
 use Rattle.motion_cli.proofs.LocalLemmas.{all_agree, all_fair, parts_agree, parts_fair, run_agree, run_fair}
-use Rattle.motion_cli.proofs.WordsLemmas.{asked_once, plain_once, needs_once, deal_once, local_once}
+use Rattle.motion_cli.proofs.WordsLemmas.{asked_once}
 use Rattle.motion_cli.specs.Steps.{Fault, Loads, StoresAll}
 
 -- The commands.
@@ -237,49 +236,26 @@ pub record IsSettled {R : Type 0} (asks : R → Type 0) (ends : Option Holding �
   pub agree : (held : Holding) (rose : Type 0) (r : R) → ¬ rose → Agree (ends (Some held) rose r) (ends (Some held) ⊥ r)
   pub fair : (told : Option Holding) (rose : Type 0) (r : R) → Fair (files r) (ends told rose r) (ends told ⊥ r)
 
-pub plain_settled : (words : List (List ℕ)) → IsSettled (AsksPlain words) PlainEnds no_files
-plain_settled words = record {
-  one = plain_once words;
-  agree = λ held rose r quiet. both_agree held rose r.circuit r.values (PlainReads r) (PlainReads r) quiet (plain_agree r);
-  fair = λ told rose r. both_fair told rose r.circuit r.values (PlainReads r) (PlainReads r) (plain_fair r);
-}
-
-pub needs_settled : (words : List (List ℕ)) → IsSettled (AsksNeeds words) NeedsEnds no_files
-needs_settled words = record {
-  one = needs_once words;
-  agree = λ held rose r quiet. loads_agree held rose ⊥ r.circuit (NeedsReads r) (NeedsReads r) quiet (λ x. x) (needs_agree r);
-  fair = λ told rose r. loads_fair [] told rose r.circuit (NeedsReads r) (NeedsReads r) (needs_fair r);
-}
-
-pub deal_settled : (words : List (List ℕ)) → IsSettled (AsksDeal words) DealEnds deal_files
-deal_settled words = record { one = deal_once words; agree = λ held rose r quiet. deal_agree (Some held) rose r quiet; fair = deal_fair }
-
-pub local_settled : (words : List (List ℕ)) → IsSettled (AsksLocal words) LocalEnds no_files
-local_settled words = record {
-  one = local_once words;
-  agree = λ held rose r quiet.
-      both_agree held rose r.circuit r.values (LocalTexts (Some held) rose r) (LocalTexts (Some held) ⊥ r) quiet
-      (λ circuit values. circuit_agree r.bristol r.circuit circuit _ _
-      (λ c reads. all_agree held rose ⊥ (part_names r.dealer (parties_of c)) (LocalReads r values c) (LocalReads r values c) quiet (λ x. x)
-      (local_agree r values c)));
-  fair = λ told rose r.
-      both_fair told rose r.circuit r.values (LocalTexts told rose r) (LocalTexts told ⊥ r)
-      (λ circuit values. circuit_fair r.bristol r.circuit circuit _ _
-      (λ c. all_fair told rose (part_names r.dealer (parties_of c)) (LocalReads r values c) (LocalReads r values c) (local_fair r values c)));
-}
-
 request_agree : (held : Holding) (rose : Type 0) (r : Request) → ¬ rose → Agree (RequestEnds (Some held) rose r) (RequestEnds (Some held) ⊥ r)
-request_agree held rose (plain r) quiet = (plain_settled []).agree held rose r quiet
+request_agree held rose (plain r) quiet = both_agree held rose r.circuit r.values (PlainReads r) (PlainReads r) quiet (plain_agree r)
 request_agree held rose (deal r) quiet = deal_agree (Some held) rose r quiet
-request_agree held rose (local r) quiet = (local_settled []).agree held rose r quiet
-request_agree held rose (needs r) quiet = (needs_settled []).agree held rose r quiet
+request_agree held rose (local r) quiet =
+    both_agree held rose r.circuit r.values (LocalTexts (Some held) rose r) (LocalTexts (Some held) ⊥ r) quiet
+    (λ circuit values. circuit_agree r.bristol r.circuit circuit _ _
+    (λ c reads. all_agree held rose ⊥ (part_names r.dealer (parties_of c)) (LocalReads r values c) (LocalReads r values c) quiet (λ x. x)
+    (local_agree r values c)))
+request_agree held rose (needs r) quiet =
+    loads_agree held rose ⊥ r.circuit (NeedsReads r) (NeedsReads r) quiet (λ x. x) (needs_agree r)
 
 request_fair : (told : Option Holding) (rose : Type 0) (r : Request) →
     Fair (request_files r) (RequestEnds told rose r) (RequestEnds told ⊥ r)
-request_fair told rose (plain r) = (plain_settled []).fair told rose r
+request_fair told rose (plain r) = both_fair told rose r.circuit r.values (PlainReads r) (PlainReads r) (plain_fair r)
 request_fair told rose (deal r) = deal_fair told rose r
-request_fair told rose (local r) = (local_settled []).fair told rose r
-request_fair told rose (needs r) = (needs_settled []).fair told rose r
+request_fair told rose (local r) =
+    both_fair told rose r.circuit r.values (LocalTexts told rose r) (LocalTexts told ⊥ r)
+    (λ circuit values. circuit_fair r.bristol r.circuit circuit _ _
+    (λ c. all_fair told rose (part_names r.dealer (parties_of c)) (LocalReads r values c) (LocalReads r values c) (local_fair r values c)))
+request_fair told rose (needs r) = loads_fair [] told rose r.circuit (NeedsReads r) (NeedsReads r) (needs_fair r)
 
-pub request_settled : (words : List (List ℕ)) → IsSettled (AsksFor words) RequestEnds request_files
+pub request_settled : (words : List Text) → IsSettled (AsksFor words) RequestEnds request_files
 request_settled words = record { one = asked_once words; agree = request_agree; fair = request_fair }

@@ -1,16 +1,16 @@
 -- What words ask for, whichever list of offers says what is run.
-use Rattle.std.proofs.Common.{◌≡◌, Bool, ◌&&◌, ◌||◌, List, [], ◌∷◌, map, refl, sym, ◌∙◌, ap, subst}
+use Rattle.std.proofs.Common.{◌≡◌, ◌≢◌, Bool, ◌&&◌, ◌||◌, List, [], ◌∷◌, map, refl, sym, ◌∙◌, ap, subst}
 use Rattle.std.specs.List.{list_any}
-use Rattle.cli_words.specs.Table.{row, is_same, option_kind}
-use Rattle.cli_words.specs.Grammar.{is_command, is_offered, is_run_with, takes_option, given, IsGiven, Asks}
-use Rattle.cli_words.specs.Request.{Request, PlainRequest, NeedsRequest, DealRequest, LocalRequest, plain, needs, deal, local, command_of, option_of}
+use Rattle.cli_words.specs.Table.{row, option_row, is_command, is_same}
+use Rattle.cli_words.specs.Grammar.{is_offered, is_run_with, takes_option, given, IsGiven, Say, Asks}
+use Rattle.cli_words.specs.Request.{Request, Said}
 use Rattle.cli_words.specs.declared.table.Command.{Command}
-use Rattle.cli_words.specs.declared.table.Command.TheVariants.{Plain, Needs, Deal, Local}
+use Rattle.cli_words.specs.declared.table.Command.TheVariants.{Deal}
 use Rattle.cli_words.specs.declared.table.OptionName.{OptionName}
 use Rattle.cli_words.specs.declared.table.Offer.{Offer}
-use Rattle.cli_words.proofs.Reading.{one_request}
+use Rattle.cli_words.proofs.Reading.{one_request, asks_of_its_command}
 use Rattle.text_lines.specs.Text.{Text}
-use Rattle.motion_cli.specs.Words.{command_offered, AreRun, AsksFor, AsksPlain, AsksNeeds, AsksDeal, AsksLocal, NamesCommand, StoresNothing}
+use Rattle.motion_cli.specs.Words.{command_offered, AreRun, AsksFor, NamesCommand, StoresNothing}
 
 abbrev names : Command → Command × List OptionName → Bool
 names command offer = is_command offer.0 command
@@ -39,33 +39,30 @@ same_taken xs ys command o x y =
     ap (λ (b : Bool). list_any (is_same o) (row command).options && b) same
 
 -- what words ask for hangs on what is run alone
+say_over : (xs ys : List Offer) (command : Command) (words : List Text) (said : Said) → AreRun xs → AreRun ys → Say xs command words said →
+    Say ys command words said
+say_over xs ys command words said x y say = record {
+  offered = sym (same_offered xs ys command x y) ∙ say.offered;
+  pieces = say.pieces;
+  spelt = say.spelt;
+  positional = say.positional;
+  options = λ o.
+      let P : Bool → Type 0 = λ b. IsGiven b (option_row o).kind (given o say.pieces) (said.option o) in
+      subst P (same_taken xs ys command o x y) (say.options o);
+}
+
 asks_over : (xs ys : List Offer) (words : List Text) (r : Request) → AreRun xs → AreRun ys → Asks xs words r → Asks ys words r
 asks_over xs ys words r x y asks = record {
+  command = asks.command;
   rest = asks.rest;
-  pieces = asks.pieces;
+  said = asks.said;
   named = asks.named;
-  offered = sym (same_offered xs ys (command_of r) x y) ∙ asks.offered;
-  spelt = asks.spelt;
-  positional = asks.positional;
-  options = λ o.
-      let P : Bool → Type 0 = λ b. IsGiven b (option_kind o) (given o asks.pieces) (option_of o r) in
-      subst P (same_taken xs ys (command_of r) o x y) (asks.options o);
+  say = say_over xs ys asks.command asks.rest asks.said x y asks.say;
+  asked = asks.asked;
 }
 
 pub asked_once : (words : List Text) (r s : Request) → AsksFor words r → AsksFor words s → r ≡ s
 asked_once words r s a b = one_request b.0 words r s (asks_over a.0 b.0 words r a.1 b.1 a.2) b.2
-
-pub plain_once : (words : List Text) (r s : PlainRequest) → AsksPlain words r → AsksPlain words s → r ≡ s
-plain_once words r s a b = (let same : plain r ≡ plain s = asked_once ((row Plain).text ∷ words) (plain r) (plain s) a b in cc)
-
-pub needs_once : (words : List Text) (r s : NeedsRequest) → AsksNeeds words r → AsksNeeds words s → r ≡ s
-needs_once words r s a b = (let same : needs r ≡ needs s = asked_once ((row Needs).text ∷ words) (needs r) (needs s) a b in cc)
-
-pub deal_once : (words : List Text) (r s : DealRequest) → AsksDeal words r → AsksDeal words s → r ≡ s
-deal_once words r s a b = (let same : deal r ≡ deal s = asked_once ((row Deal).text ∷ words) (deal r) (deal s) a b in cc)
-
-pub local_once : (words : List Text) (r s : LocalRequest) → AsksLocal words r → AsksLocal words s → r ≡ s
-local_once words r s a b = (let same : local r ≡ local s = asked_once ((row Local).text ∷ words) (local r) (local s) a b in cc)
 
 -- nothing else is asked for where one list of offers asks for nothing else
 pub none_asked : (offers : List Offer) (words : List Text) → AreRun offers → ((r : Request) → ¬ (Asks offers words r)) →
@@ -74,12 +71,9 @@ none_asked offers words run none r asks = none r (asks_over asks.0 offers words 
 
 -- words that ask for something begin with the name of a command
 pub asked_is_named : (words : List Text) (r : Request) → AsksFor words r → NamesCommand words
-asked_is_named words r asks = (asks.0, asks.1, (command_of r, asks.2.rest, asks.2.named, asks.2.offered))
+asked_is_named words r asks = (asks.0, asks.1, (asks.2.command, asks.2.rest, asks.2.named, asks.2.say.offered))
 
--- words that do not ask for `deal` ask for nothing that is stored
-pub not_dealt : (words : List Text) (r : Request) → ((request : DealRequest) → ¬ (AsksFor words (deal request))) → AsksFor words r →
-    StoresNothing r
-not_dealt words (deal r) none asks = none r asks
-not_dealt words (plain r) none asks = tt
-not_dealt words (local r) none asks = tt
-not_dealt words (needs r) none asks = tt
+-- the words behind the name of a command other than `deal` ask for nothing that is stored
+pub stores_nothing : (offers : List Offer) (command : Command) (words : List Text) (r : Request) → command ≢ Deal →
+    Asks offers ((row command).text ∷ words) r → StoresNothing r
+stores_nothing offers command words r other asks = λ e. other (sym (asks_of_its_command offers command words r asks) ∙ e)

@@ -1,11 +1,7 @@
 -- A circuit as a command meets it: a mixed one, or one in Bristol Fashion, whose words say how its wires are shared and
 -- for how many parties.
-use Rattle.std.specs.Prelude.{ℕ, ◌≡◌, ◌≤◌, Bool, true, false, List, Option, Some, None}
+use Rattle.std.specs.Prelude.{ℕ, ◌≡◌, ◌≤◌, Bool, not, List, Option, Some, None}
 use Rattle.mot_base.specs.Limits.{least_parties, most_parties}
-use Rattle.share_types.specs.declared.sharing.Sharing.{Sharing}
-use Rattle.share_types.specs.declared.sharing.Sharing.TheVariants as share
-use Rattle.cli_words.specs.declared.table.Sharing as word
-use Rattle.cli_words.specs.declared.table.Sharing.TheVariants.{B, Y}
 use Rattle.cli_words.specs.Request.{Bristol, bristol_of}
 use Rattle.circuit_tables.specs.Table.{Input, Output, Told}
 use Rattle.mixed_language.specs.Circuit as mixed
@@ -78,24 +74,15 @@ abbrev pub IsWhole : Circuit → Type 0
 IsWhole (Mixed c) = mixed_said.IsCircuit c
 IsWhole (InBristol b c) = bristol_built.IsCircuit c × (least_parties ≤ b.parties) × (b.parties ≤ most_parties)
 
--- how the wires of a circuit in Bristol Fashion are shared
-abbrev pub sharing_of : word.Sharing → Sharing
-sharing_of B = share.B
-sharing_of Y = share.Y
-
 -- how many gates a circuit has
 abbrev pub gates_of : Circuit → ℕ
 gates_of (Mixed c) = all_gates c
-gates_of (InBristol b c) = all_bristol_gates (are_keys (sharing_of b.sharing)) c
+gates_of (InBristol b c) = all_bristol_gates (are_keys b.sharing) c
 
 -- whether its plan is built
-abbrev pub is_shared_by_xor : word.Sharing → Bool
-is_shared_by_xor B = true
-is_shared_by_xor Y = false
-
 abbrev pub is_built : Circuit → Bool
 is_built (Mixed c) = all_built c
-is_built (InBristol b c) = is_shared_by_xor b.sharing
+is_built (InBristol b c) = not (are_keys b.sharing)
 
 -- the plan of a circuit that is built
 abbrev pub plan_of : Circuit → Gates

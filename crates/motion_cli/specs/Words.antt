@@ -1,8 +1,8 @@
 -- What words ask for, by the grammar of all commands over those commands and options that this program runs.
-use Rattle.std.specs.Prelude.{◌≡◌, List, [], ◌∷◌, map}
+use Rattle.std.specs.Prelude.{◌≡◌, ◌≢◌, List, [], ◌∷◌, map}
 use Rattle.cli_words.specs.Table.{row}
 use Rattle.cli_words.specs.Grammar.{Asks, IsNamed}
-use Rattle.cli_words.specs.Request.{Request, PlainRequest, NeedsRequest, DealRequest, LocalRequest, plain, needs, deal, local}
+use Rattle.cli_words.specs.Request.{Request, command_of}
 use Rattle.cli_words.specs.declared.table.Command.{Command}
 use Rattle.cli_words.specs.declared.table.Command.TheVariants.{Plain, Needs, Deal, Local}
 use Rattle.cli_words.specs.declared.table.OptionName.{OptionName}
@@ -27,29 +27,14 @@ AreRun offers = map command_offered offers ≡ run_commands
 abbrev pub AsksFor : List Text → Request → Type 0
 AsksFor words request = (offers : List Offer) × AreRun offers × Asks offers words request
 
--- the words after `plain` ask for this
-abbrev pub AsksPlain : List Text → PlainRequest → Type 0
-AsksPlain words request = AsksFor ((row Plain).text ∷ words) (plain request)
-
--- the words after `needs` ask for this
-abbrev pub AsksNeeds : List Text → NeedsRequest → Type 0
-AsksNeeds words request = AsksFor ((row Needs).text ∷ words) (needs request)
-
--- the words after `deal` ask for this
-abbrev pub AsksDeal : List Text → DealRequest → Type 0
-AsksDeal words request = AsksFor ((row Deal).text ∷ words) (deal request)
-
--- the words after `local` ask for this
-abbrev pub AsksLocal : List Text → LocalRequest → Type 0
-AsksLocal words request = AsksFor ((row Local).text ∷ words) (local request)
+-- the words after the name of a command ask for this, which is a request of that command
+abbrev pub AsksBehind : Command → List Text → Request → Type 0
+AsksBehind command words request = AsksFor ((row command).text ∷ words) request
 
 -- the words after the program's name begin with the name of a command that is run
 abbrev pub NamesCommand : List Text → Type 0
 NamesCommand words = (offers : List Offer) × AreRun offers × IsNamed offers words
 
--- the command of the request stores no file
+-- the command of the request stores no file: all do so but `deal`
 abbrev pub StoresNothing : Request → Type 0
-StoresNothing (deal request) = ⊥
-StoresNothing (plain request) = Unit {0}
-StoresNothing (local request) = Unit {0}
-StoresNothing (needs request) = Unit {0}
+StoresNothing request = command_of request ≢ Deal

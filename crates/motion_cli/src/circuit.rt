@@ -6,7 +6,7 @@ ghost use Rattle.cli_words.specs.Request.{bristol_of};
 ghost use Rattle.circuit_tables.specs.Table.{AreNamedApart};
 ghost use Rattle.circuit_tables.specs.Values.{HaveWidths};
 ghost use Rattle.mixed_language.specs.Table as mixed_table;
-ghost use Rattle.motion_cli.specs.Circuits.{InBristol, circuit_of, Reads, FirstFault, IsFirstFault, inputs_of, outputs_of, parties_of, IsWhole, sharing_of, gates_of, is_built, plan_of, Keeps, IsPlain, notation_of};
+ghost use Rattle.motion_cli.specs.Circuits.{InBristol, circuit_of, Reads, FirstFault, IsFirstFault, inputs_of, outputs_of, parties_of, IsWhole, gates_of, is_built, plan_of, Keeps, IsPlain, notation_of};
 ghost use Rattle.gate_plan.specs.Keeps.{KeepsEvaluation};
 ghost use Rattle.gate_plan.specs.Lowering.{all_gates, all_built, lowered};
 ghost use Rattle.local_run.specs.Inputs.{TakesInputs};
@@ -21,7 +21,6 @@ use gate_plan::{
 };
 use mixed_circuit::{CircuitCause, CircuitError, Mixed, plain, read_mixed};
 use mot_base::NoMemory;
-use share_types::Sharing;
 use std::alloc::Global;
 
 /// A circuit that a command reads.
@@ -136,9 +135,7 @@ impl Circuit {
     {
         match self {
             Circuit::Mixed(circuit) => lowered_gates(circuit),
-            Circuit::Bristol(circuit, words) => {
-                lowered_bristol_gates(circuit, sharing_of(words.sharing))
-            }
+            Circuit::Bristol(circuit, words) => { lowered_bristol_gates(circuit, words.sharing) }
         }
     }
 
@@ -155,7 +152,7 @@ impl Circuit {
         match self {
             Circuit::Mixed(circuit) => mixed_plan(alloc, circuit),
             Circuit::Bristol(circuit, words) => {
-                lower_bristol(alloc, circuit, words.parties, sharing_of(words.sharing))
+                lower_bristol(alloc, circuit, words.parties, words.sharing)
             }
         }
     }
@@ -213,14 +210,4 @@ fn mixed_outputs(alloc: Global, circuit: &Mixed) -> Result<OutputTable, NoMemory
 {
     let _statements = circuit.len();
     circuit.outputs(alloc)
-}
-
-/// How the wires of a circuit in Bristol Fashion are shared.
-fn sharing_of(sharing: cli_words::Sharing) -> Sharing
-    ensures { result ≡ sharing_of sharing }
-{
-    match sharing {
-        cli_words::Sharing::B => Sharing::B,
-        cli_words::Sharing::Y => Sharing::Y,
-    }
 }

@@ -1,16 +1,15 @@
 //! What the program does with the words after its name.
 
-ghost use Rattle.std.specs.Prelude.{◌≡◌, ◌≤◌, IfOk};
+ghost use Rattle.std.specs.Prelude.{◌≡◌, ◌≢◌, ◌≤◌, IfOk};
 ghost use Rattle.mot_base.specs.Faults.{Rose};
 ghost use Rattle.cli_words.specs.Grammar.{texts};
-ghost use Rattle.cli_words.specs.Request.{DealRequest, deal, request_of, plain_request, needs_request, deal_request, local_request};
+ghost use Rattle.cli_words.specs.Request.{Request, request_of};
 ghost use Rattle.motion_cli.specs.Coming.{Came, ReadCame};
-ghost use Rattle.motion_cli.specs.Commands.{RequestEnds, PlainEnds, NeedsEnds, DealEnds, LocalEnds, request_files};
-ghost use Rattle.motion_cli.specs.Ending.{outside, no_files};
-ghost use Rattle.motion_cli.specs.Parts.{deal_files};
+ghost use Rattle.motion_cli.specs.Commands.{RequestEnds, request_files};
+ghost use Rattle.motion_cli.specs.Ending.{outside};
 ghost use Rattle.motion_cli.specs.Refusal.{came_to};
 ghost use Rattle.motion_cli.specs.Settled.{EndsWell};
-ghost use Rattle.motion_cli.specs.Words.{AsksFor, AsksPlain, AsksNeeds, AsksDeal, AsksLocal, NamesCommand, StoresNothing};
+ghost use Rattle.motion_cli.specs.Words.{AsksFor, AsksBehind, NamesCommand, StoresNothing};
 
 use crate::commands::{needs_report, plain_report};
 use crate::end::end;
@@ -18,10 +17,7 @@ use crate::local::local_report;
 use crate::offers::offers;
 use crate::parts::deal_report;
 use crate::refusal::Refusal;
-use cli_words::{
-    CommandWords, DealWords, LocalWords, NeedsWords, PlainWords, WordsError, read_deal, read_local,
-    read_needs, read_plain, read_words,
-};
+use cli_words::{Command, CommandWords, WordsError, read_behind, read_words};
 use mot_base::{Files, Sink};
 use std::alloc::Global;
 
@@ -31,7 +27,7 @@ pub fn motion<F: Files, S: Sink>(alloc: Global, words: &[String], files: &mut F,
         (outside (F.holds files.old) (F.faults files.old) (S.appended out.old) (S.faults out.old))
         (outside (F.holds files.new) (F.faults files.new) (S.appended out.new) (S.faults out.new)) result }
     ensures unnamed { ¬ (NamesCommand (texts words.entry.now)) → result ≡ 1 }
-    ensures same { ((request : DealRequest) → ¬ (AsksFor (texts words.entry.now) (deal request))) →
+    ensures same { ((request : Request) → AsksFor (texts words.entry.now) request → StoresNothing request) →
         F.holds files.new ≡ F.holds files.old }
 {
     let read = read_words(alloc, offers(), words);
@@ -80,6 +76,24 @@ fn run_words<'a, F: Files>(
     }
 }
 
+/// The call of a command, with the words after its name.
+fn call<F: Files, S: Sink>(
+    alloc: Global,
+    command: Command,
+    words: &[String],
+    files: &mut F,
+    out: &mut S,
+) -> u8
+    ensures ends { EndsWell (AsksBehind command (texts words.entry.now)) RequestEnds request_files
+        (outside (F.holds files.old) (F.faults files.old) (S.appended out.old) (S.faults out.old))
+        (outside (F.holds files.new) (F.faults files.new) (S.appended out.new) (S.faults out.new)) result }
+    ensures same { command ≢ Command.Deal → F.holds files.new ≡ F.holds files.old }
+{
+    let read = read_behind(alloc, offers(), command, words);
+    let outcome = run(alloc, &read, files);
+    end(alloc, out, outcome)
+}
+
 /// The command `plain`, with the words after it.
 pub fn plain_command<F: Files, S: Sink>(
     alloc: Global,
@@ -87,32 +101,12 @@ pub fn plain_command<F: Files, S: Sink>(
     files: &mut F,
     out: &mut S,
 ) -> u8
-    ensures ends { EndsWell (AsksPlain (texts words.entry.now)) PlainEnds no_files
+    ensures ends { EndsWell (AsksBehind Command.Plain (texts words.entry.now)) RequestEnds request_files
         (outside (F.holds files.old) (F.faults files.old) (S.appended out.old) (S.faults out.old))
         (outside (F.holds files.new) (F.faults files.new) (S.appended out.new) (S.faults out.new)) result }
     ensures same { F.holds files.new ≡ F.holds files.old }
 {
-    let read = read_plain(alloc, offers(), words);
-    let outcome = run_plain(alloc, &read, files);
-    end(alloc, out, outcome)
-}
-
-/// What comes of the words after `plain`, as they were read.
-fn run_plain<'a, F: Files>(
-    alloc: Global,
-    read: &'a Result<PlainWords, WordsError>,
-    files: &mut F,
-) -> Result<String, Refusal<'a>>
-    ensures came { ReadCame plain_request
-        (PlainEnds (F.holds files.old) (Rose (F.faults files.old) (F.faults files.new))) no_files
-        (F.holds files.old) (F.holds files.new) read.entry.now (came_to result) }
-    ensures same { F.holds files.new ≡ F.holds files.old }
-    ensures never_falls { F.faults files.old ≤ F.faults files.new }
-{
-    match read {
-        Ok(words) => plain_report(alloc, words, files),
-        Err(error) => Err(Refusal::from(*error)),
-    }
+    call(alloc, Command::Plain, words, files, out)
 }
 
 /// The command `needs`, with the words after it.
@@ -122,32 +116,12 @@ pub fn needs_command<F: Files, S: Sink>(
     files: &mut F,
     out: &mut S,
 ) -> u8
-    ensures ends { EndsWell (AsksNeeds (texts words.entry.now)) NeedsEnds no_files
+    ensures ends { EndsWell (AsksBehind Command.Needs (texts words.entry.now)) RequestEnds request_files
         (outside (F.holds files.old) (F.faults files.old) (S.appended out.old) (S.faults out.old))
         (outside (F.holds files.new) (F.faults files.new) (S.appended out.new) (S.faults out.new)) result }
     ensures same { F.holds files.new ≡ F.holds files.old }
 {
-    let read = read_needs(alloc, offers(), words);
-    let outcome = run_needs(alloc, &read, files);
-    end(alloc, out, outcome)
-}
-
-/// What comes of the words after `needs`, as they were read.
-fn run_needs<'a, F: Files>(
-    alloc: Global,
-    read: &'a Result<NeedsWords, WordsError>,
-    files: &mut F,
-) -> Result<String, Refusal<'a>>
-    ensures came { ReadCame needs_request
-        (NeedsEnds (F.holds files.old) (Rose (F.faults files.old) (F.faults files.new))) no_files
-        (F.holds files.old) (F.holds files.new) read.entry.now (came_to result) }
-    ensures same { F.holds files.new ≡ F.holds files.old }
-    ensures never_falls { F.faults files.old ≤ F.faults files.new }
-{
-    match read {
-        Ok(words) => needs_report(alloc, words, files),
-        Err(error) => Err(Refusal::from(*error)),
-    }
+    call(alloc, Command::Needs, words, files, out)
 }
 
 /// The command `deal`, with the words after it.
@@ -157,30 +131,11 @@ pub fn deal_command<F: Files, S: Sink>(
     files: &mut F,
     out: &mut S,
 ) -> u8
-    ensures { EndsWell (AsksDeal (texts words.entry.now)) DealEnds deal_files
+    ensures { EndsWell (AsksBehind Command.Deal (texts words.entry.now)) RequestEnds request_files
         (outside (F.holds files.old) (F.faults files.old) (S.appended out.old) (S.faults out.old))
         (outside (F.holds files.new) (F.faults files.new) (S.appended out.new) (S.faults out.new)) result }
 {
-    let read = read_deal(alloc, offers(), words);
-    let outcome = run_deal(alloc, &read, files);
-    end(alloc, out, outcome)
-}
-
-/// What comes of the words after `deal`, as they were read.
-fn run_deal<'a, F: Files>(
-    alloc: Global,
-    read: &'a Result<DealWords, WordsError>,
-    files: &mut F,
-) -> Result<String, Refusal<'a>>
-    ensures came { ReadCame deal_request
-        (DealEnds (F.holds files.old) (Rose (F.faults files.old) (F.faults files.new))) deal_files
-        (F.holds files.old) (F.holds files.new) read.entry.now (came_to result) }
-    ensures never_falls { F.faults files.old ≤ F.faults files.new }
-{
-    match read {
-        Ok(words) => deal_report(alloc, words, files),
-        Err(error) => Err(Refusal::from(*error)),
-    }
+    call(alloc, Command::Deal, words, files, out)
 }
 
 /// The command `local`, with the words after it.
@@ -190,30 +145,10 @@ pub fn local_command<F: Files, S: Sink>(
     files: &mut F,
     out: &mut S,
 ) -> u8
-    ensures ends { EndsWell (AsksLocal (texts words.entry.now)) LocalEnds no_files
+    ensures ends { EndsWell (AsksBehind Command.Local (texts words.entry.now)) RequestEnds request_files
         (outside (F.holds files.old) (F.faults files.old) (S.appended out.old) (S.faults out.old))
         (outside (F.holds files.new) (F.faults files.new) (S.appended out.new) (S.faults out.new)) result }
     ensures same { F.holds files.new ≡ F.holds files.old }
 {
-    let read = read_local(alloc, offers(), words);
-    let outcome = run_local(alloc, &read, files);
-    end(alloc, out, outcome)
-}
-
-/// What comes of the words after `local`, as they were read.
-fn run_local<'a, F: Files>(
-    alloc: Global,
-    read: &'a Result<LocalWords, WordsError>,
-    files: &mut F,
-) -> Result<String, Refusal<'a>>
-    ensures came { ReadCame local_request
-        (LocalEnds (F.holds files.old) (Rose (F.faults files.old) (F.faults files.new))) no_files
-        (F.holds files.old) (F.holds files.new) read.entry.now (came_to result) }
-    ensures same { F.holds files.new ≡ F.holds files.old }
-    ensures never_falls { F.faults files.old ≤ F.faults files.new }
-{
-    match read {
-        Ok(words) => local_report(alloc, words, files),
-        Err(error) => Err(Refusal::from(*error)),
-    }
+    call(alloc, Command::Local, words, files, out)
 }

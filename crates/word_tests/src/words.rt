@@ -1,8 +1,8 @@
 //! Lines of words and what they ask for.
 use cli_words::{
-    BristolWords, Command, CommandWords, Offer, OptionName, Sharing, WordsError, read_deal,
-    read_local, read_needs, read_plain, read_words,
+    BristolWords, Command, CommandWords, Offer, OptionName, WordsError, read_behind, read_words,
 };
+use share_types::Sharing;
 use std::alloc::{AllocError, Global};
 
 // every command with every option
@@ -56,6 +56,7 @@ fn bristol(alloc: Global, words: Option<BristolWords>) -> Result<String, AllocEr
         return String::from_str(alloc, "");
     };
     let sharing = match words.sharing {
+        Sharing::A => "A",
         Sharing::B => "B",
         Sharing::Y => "Y",
     };
@@ -309,19 +310,12 @@ static RESTS: [(Command, &[&str], &str); 8] = [
     (Command::Local, &["c", "v"], "usage"),
 ];
 
-/// What the call of a command reads of the words behind its name.
-fn asked_of(alloc: Global, command: Command, words: &[String]) -> Result<CommandWords, WordsError> {
-    match command {
-        Command::Plain => read_plain(alloc, &ALL, words).map(CommandWords::Plain),
-        Command::Needs => read_needs(alloc, &ALL, words).map(CommandWords::Needs),
-        Command::Deal => read_deal(alloc, &ALL, words).map(CommandWords::Deal),
-        Command::Local => read_local(alloc, &ALL, words).map(CommandWords::Local),
-    }
-}
-
 fn is_rest_read(alloc: Global, command: Command, rest: &[&str], wanted: &str) -> bool {
     match words_of(alloc, rest) {
-        Ok(words) => is_told(alloc, &asked_of(alloc, command, words.as_slice()), wanted),
+        Ok(words) => {
+            let asked = read_behind(alloc, &ALL, command, words.as_slice());
+            is_told(alloc, &asked, wanted)
+        }
         Err(_) => false,
     }
 }

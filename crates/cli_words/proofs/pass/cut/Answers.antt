@@ -1,5 +1,5 @@
 use Rattle.std.proofs.Common.{◌≡◌, ◌<◌, List, length, drop, option_map, sym, ◌∙◌, ap, subst, arith, ◌+◌, ◌∷◌}
-use Rattle.cli_words.specs.Table.{Text}
+use Rattle.text_lines.specs.Text.{Text}
 use Rattle.cli_words.specs.Grammar.{Piece, texts}
 use Rattle.cli_words.specs.Pass.{cut, pieces_of, next_of}
 use Rattle.cli_words.specs.declared.pass.State.TheVariants.{Between}

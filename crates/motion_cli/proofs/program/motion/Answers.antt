@@ -8,8 +8,7 @@ use Rattle.motion_cli.specs.Refusal.{came_to}
 use Rattle.motion_cli.specs.Words.{NamesCommand, StoresNothing}
 use Rattle.motion_cli.proofs.CallLemmas.{call_ends_well}
 use Rattle.motion_cli.proofs.ProgramLemmas.{unnamed_is_usage}
-use Rattle.motion_cli.proofs.SettledLemmas.{request_settled}
-use Rattle.motion_cli.proofs.WordsLemmas.{asked_is_named, not_dealt}
+use Rattle.motion_cli.proofs.WordsLemmas.{asked_is_named}
 use Rattle.motion_cli.proofs.program.motion.Goals as goal
 
 pub returns-clause-ends : goal.returns-clause-ends
@@ -17,8 +16,7 @@ returns-clause-ends g c =
     let old = c.args.files.now in
     let new = c.run-outcome.new.files in
     let read = c.read_words-read.ensures in
-    call_ends_well (λ r. r) request_of RequestEnds request_files c.offers.result.now (texts c.args.words.now)
-    (request_settled (texts c.args.words.now))
+    call_ends_well c.offers.result.now (texts c.args.words.now)
     (outside (g.F.Files.holds old) (g.F.Files.faults old) (g.S.Sink.appended c.args.out.now) (g.S.Sink.faults c.args.out.now))
     (outside (g.F.Files.holds new) (g.F.Files.faults new) (g.S.Sink.appended c.end.new.out) (g.S.Sink.faults c.end.new.out))
     c.read_words-read.result (came_to c.run-outcome.result) c.end.result c.offers.ensures read.read read.refused
@@ -42,4 +40,4 @@ returns-clause-same g c = λ none.
     let words = texts c.args.words.now in
     c.run-outcome.ensures.same (IfOk-weaker c.read_words-read.result (λ read. Asks c.offers.result.now words (request_of read))
     (λ read. StoresNothing (request_of read))
-    (λ read asks. not_dealt words (request_of read) none (c.offers.result.now, c.offers.ensures, asks)) c.read_words-read.ensures.read)
+    (λ read asks. none (request_of read) (c.offers.result.now, c.offers.ensures, asks)) c.read_words-read.ensures.read)

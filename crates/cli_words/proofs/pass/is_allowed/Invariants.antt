@@ -1,0 +1,10 @@
+use Rattle.std.proofs.Common.{drop}
+use Rattle.cli_words.specs.Grammar.{given}
+use Rattle.cli_words.specs.Pass.{pieces_of}
+use Rattle.cli_words.proofs.CodeSteps.{IsAllowedSoFar}
+use Rattle.cli_words.proofs.pass.is_allowed.Given as goal
+
+abbrev pub invariant-loop-piece : goal.invariant-loop-piece
+invariant-loop-piece l =
+    IsAllowedSoFar l.takes (given l.option (pieces_of l.pieces)) l.found
+    (given l.option (pieces_of (drop l.piece-index l.pieces)))
