@@ -1,6 +1,6 @@
 //! What a stage sends, and what a task carries from stage to stage.
 
-ghost use Rattle.std.specs.Prelude.{◌≡◌, IfOk};
+ghost use Rattle.std.specs.Prelude.{◌≡◌, ◌++◌, [], IfOk, OnOk};
 
 use mot_base::{NoMemory, Party, Payload};
 use std::alloc::Global;
@@ -36,6 +36,24 @@ impl Outs {
         ensures { result ≡ outs.items }
     {
         Outs { outs }
+    }
+
+    /// No messages. It takes no memory.
+    pub fn none(alloc: Global) -> Outs
+        ensures { result ≡ [] }
+    {
+        Outs {
+            outs: Vec::new(alloc),
+        }
+    }
+
+    /// Adds messages behind those that there are.
+    pub fn append(&mut self, more: Outs) -> Result<(), NoMemory>
+        ensures { OnOk result (self.new ≡ self.old ++ more) }
+    {
+        let mut behind = more.outs;
+        self.outs.append(&mut behind)?;
+        Ok(())
     }
 
     /// The messages, in order.

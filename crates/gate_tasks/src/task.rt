@@ -1,6 +1,6 @@
 //! A gate of one party as a task.
 
-ghost use Rattle.std.specs.Prelude.{◌≡◌, ◌<◌, ◌+◌, List, Some, None, slice_get, option_map, IfOk, IfSome, IsSome, OnErr};
+ghost use Rattle.std.specs.Prelude.{◌≡◌, ◌<◌, ◌+◌, List, length, Some, None, slice_get, option_map, IfOk, IfSome, IsSome, OnErr};
 ghost use Rattle.plan_gates.specs.Gate.{Gate};
 ghost use Rattle.plan_gates.specs.Messages.{stages, awaits};
 ghost use Rattle.joint_run.specs.Party as party;
@@ -12,7 +12,7 @@ use crate::gather::{held_values, kept_payloads, lacking};
 use crate::outgoing::Carried;
 use crate::own::{Env, StageEnv};
 use crate::stage::{StageOut, run_stage};
-use crate::step::Step;
+use crate::step::{Need, Step};
 use mot_base::NoMemory;
 use std::alloc::Global;
 use std::marker::Model;
@@ -58,6 +58,14 @@ impl GateTask {
         ensures { result ≡ self.now.stage }
     {
         self.stage
+    }
+
+    /// The first thing that the next stage lacks: values of operands in the gate's order, and then messages by sender.
+    pub fn lacking(&self, env: &Env) -> Option<Need>
+        requires { self.now.gate < length env.now.plan.now.gates }
+        ensures { result ≡ lacking env.now self.now.gate self.now.stage }
+    {
+        lacking(env, self.gate, self.stage)
     }
 
     /// Runs the next stage, or tells the first thing that it lacks: values of operands in the gate's order, and then messages

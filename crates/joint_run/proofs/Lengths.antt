@@ -13,7 +13,7 @@ use Rattle.plan_gates.specs.Plan.{Gates, sizes_of}
 use Rattle.plan_gates.specs.Messages.{words, vectors, messages_of, messages_at, message, are_two}
 use Rattle.share_types.specs.Wires.{includes}
 use Rattle.joint_run.specs.Payload.{word_bytes, vectors_bytes}
-use Rattle.joint_run.specs.Party.{Own, Hand, Rounds, width, hand_at, before, silence, gate_sends, sends_at, word, vector, given_word, given_vector, left_word, right_word, left_vector, right_vector}
+use Rattle.joint_run.specs.Party.{Own, Hand, Rounds, Inbox, party_sends, width, hand_at, before, silence, gate_sends, sends_at, word, vector, given_word, given_vector, left_word, right_word, left_vector, right_vector}
 use Rattle.joint_run.specs.Honest.{nobody}
 use Rattle.joint_run.specs.Joint.{Payloads, column, sent_by, IsJoint}
 use Rattle.joint_run.specs.Laws.{length_of, PayloadsHaveTheirLengths}
@@ -89,21 +89,30 @@ first_of n from to both = at (nat_lt from n) refl
         false_true : false ≡ true → ⊥
         false_true h = cc
 
-module _ (plan : Gates) (owns : List Own) (table : Payloads) (count : length owns ≡ plan.parties) (joint : IsJoint plan owns table) where
-  gate_fits : (g r to : ℕ) (h : Hand) (got : Rounds) (o : Option Gate) → slice_get plan.gates g ≡ o → width h ≡ width_at plan.gates g →
-      length (get_or (sends_at o h got) r silence to) ≡ length_of (unwrap_or (slice_get (messages_at plan o h.me to) r) None)
-  gate_fits g r to h got None found e = refl
-  gate_fits g r to h got (Some gate) found e =
-      fits gate.kind (sizes_of plan gate) h got to r
-      (e ∙ ap (λ o. unwrap_or (option_map (λ (x : Gate). x.width) o) 0) found)
+gate_fits : (plan : Gates) (g r to : ℕ) (h : Hand) (got : Rounds) (o : Option Gate) → slice_get plan.gates g ≡ o → width h ≡ width_at plan.gates g →
+    length (get_or (sends_at o h got) r silence to) ≡ length_of (unwrap_or (slice_get (messages_at plan o h.me to) r) None)
+gate_fits plan g r to h got None found e = refl
+gate_fits plan g r to h got (Some gate) found e =
+    fits gate.kind (sizes_of plan gate) h got to r
+    (e ∙ ap (λ o. unwrap_or (option_map (λ (x : Gate). x.width) o) 0) found)
 
+-- what a party sends has the length that the plan states, whatever it was sent
+sends_by : (plan : Gates) (me : ℕ) (own : Own) (inbox : Inbox) (g r to : ℕ) (b : Bool) → are_two plan.parties me to ≡ b →
+    length (party_sends plan me own inbox g r to) ≡ length_of (message plan me to g r)
+sends_by plan me own inbox g r to true both =
+    rw both (gate_fits plan g r to (hand_at plan me own inbox g) (before r (inbox g)) (slice_get plan.gates g) refl refl)
+sends_by plan me own inbox g r to false both = rw both refl
+
+pub sends_fit : (plan : Gates) (me : ℕ) (own : Own) (inbox : Inbox) (g r to : ℕ) →
+    length (party_sends plan me own inbox g r to) ≡ length_of (message plan me to g r)
+sends_fit plan me own inbox g r to = sends_by plan me own inbox g r to (are_two plan.parties me to) refl
+
+module _ (plan : Gates) (owns : List Own) (table : Payloads) (count : length owns ≡ plan.parties) (joint : IsJoint plan owns table) where
   sent_fits : (g r from to : ℕ) (b : Bool) → are_two plan.parties from to ≡ b → (o : Option Own) → slice_get owns from ≡ o →
       length (sent_by plan from o (column table from) g r to) ≡ length_of (message plan from to g r)
   sent_fits g r from to true both None there = absurd (none_there (sym there ∙ there_is owns from nobody (subst (λ m. from < m) (sym count) (first_of plan.parties from to both))))
   sent_fits g r from to false both None there = rw both refl
-  sent_fits g r from to true both (Some own) there =
-      rw both (gate_fits g r to (hand_at plan from own (column table from) g) (before r (column table from g)) (slice_get plan.gates g) refl refl)
-  sent_fits g r from to false both (Some own) there = rw both refl
+  sent_fits g r from to b both (Some own) there = sends_fit plan from own (column table from) g r to
 
 pub payloads_have_their_lengths : PayloadsHaveTheirLengths
 payloads_have_their_lengths plan owns table count joint g r from to =

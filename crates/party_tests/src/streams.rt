@@ -5,7 +5,7 @@ ghost use Rattle.message_demux.specs.Inbox.{empty_inbox};
 use frames::FrameFault;
 use message_demux::{Inbox, Refused, Shape, Slot, SlotSpec};
 use mot_base::{BytesLeft, MemLinks, NoMemory, Party, Piece};
-use party_engine::{PartyError, Run, exchange};
+use peer_streams::{PartyError, Run, exchange};
 use std::alloc::{AllocError, Global};
 
 // the parts of party 1's stream to party 0, each by a letter
@@ -139,7 +139,9 @@ fn answer_of(error: &PartyError) -> Answer {
         PartyError::EndEarly { peer: _, slot } => Answer::EndEarly(slot.gate),
         PartyError::PeerClosed { peer: _ } => Answer::PeerClosed,
         PartyError::LinkFault => Answer::LinkFault,
-        PartyError::TooManyBytes { peer: _ } | PartyError::NoMemory => Answer::Other,
+        PartyError::TooFew(_) | PartyError::TooManyBytes { peer: _ } | PartyError::NoMemory => {
+            Answer::Other
+        }
     }
 }
 

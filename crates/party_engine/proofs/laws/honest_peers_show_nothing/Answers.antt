@@ -1,5 +1,0 @@
-use Rattle.party_engine.proofs.Heard.{honest}
-use Rattle.party_engine.proofs.laws.honest_peers_show_nothing.Goals as goal
-
-pub returns : goal.returns
-returns c = λ before told closed place hellos sends slots answer streams is. honest before told closed place hellos sends slots answer streams is

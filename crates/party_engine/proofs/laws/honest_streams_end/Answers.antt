@@ -1,5 +1,0 @@
-use Rattle.party_engine.proofs.Honest.{ends}
-use Rattle.party_engine.proofs.laws.honest_streams_end.Goals as goal
-
-pub returns : goal.returns
-returns c = λ expected sends slots bytes stream are. ends expected sends slots bytes stream are

@@ -1,5 +1,0 @@
-use Rattle.party_engine.proofs.Honest.{shows-first}
-use Rattle.party_engine.proofs.laws.honest_streams_show_nothing.Goals as goal
-
-pub returns : goal.returns
-returns c = λ expected sends slots bytes some rest shown stream are is shows. shows-first expected sends slots bytes stream are some rest shown is shows

@@ -1,0 +1,14 @@
+pub mod Options
+pub mod Judged
+pub mod Keeping
+pub mod Received
+pub mod Full
+pub mod Lists
+pub mod Counting
+pub mod Taken
+pub mod Sent
+pub mod Greeting
+pub mod Exchanged
+pub mod Honest
+pub mod Answered
+pub mod Heard
