@@ -1,114 +1,178 @@
--- Gates of one bit: what they give, and what they may stand behind.
-use Rattle.std.proofs.Common.{ℕ, zero, suc, ◌≡◌, ◌<◌, ◌+◌, ◌*◌, true, false, List, [], ◌∷◌, length, None, refl, sym, ◌∙◌, subst, arith}
+-- The gates of each kind, whose wires are shared as keys or by XOR: how many they are, that they may stand behind those of
+-- their inputs, and what they give.
+use Rattle.std.proofs.Common.{ℕ, zero, suc, ◌≡◌, ◌<◌, ◌≤◌, ◌+◌, ◌*◌, Bool, true, false, List, length, refl, sym, ◌∙◌, ap, subst, arith}
 use Rattle.std.specs.Prelude.{◌==◌, nat_le}
 use Rattle.std.specs.List.{AllByRecursion}
 use Rattle.std.proofs.lemmas.Bool.{and_parts, eqb-true}
-use Rattle.mot_base.proofs.Lists.{same_some, inside_of, some_at, all_at, all_append}
-use Rattle.share_types.specs.Sums.{each}
-use Rattle.share_types.proofs.Parties.{length-each}
-use Rattle.share_types.specs.declared.receiver.Receiver.TheVariants.{All}
+use Rattle.mot_base.proofs.Lists.{all_append}
+use Rattle.share_types.specs.declared.receiver.Receiver.{Receiver}
 use Rattle.bristol_reader.specs.declared.kind.BristolKind.{BristolKind}
 use Rattle.bristol_reader.specs.declared.kind.BristolKind.TheVariants.{Xor, And, Inv, Eq, Eqw, Mand}
 use Rattle.bristol_reader.specs.Kinds.{is_arity, is_constant}
-use Rattle.plan_gates.specs.Gate.{Gate, Vector, gives, receiver_of, InB, ConstB, XorB, XorConstB, AndB, OutB}
-use Rattle.plan_gates.specs.Plan.{Gates, IsGate}
-use Rattle.plan_gates.proofs.NeedsLemmas.{slice_get-each}
+use Rattle.plan_gates.specs.Gate.{Gate}
+use Rattle.plan_gates.specs.Plan.{Gates}
 use Rattle.gate_plan.specs.declared.wire.Wire.{Wire}
-use Rattle.gate_plan.specs.Bristol.{bit_gate, kind_gates}
-use Rattle.gate_plan.proofs.StandLemmas.{IsValue, later, value_width, value_operand, bits_gate, AllGates, all_none, all_one}
+use Rattle.gate_plan.specs.Blocks.{Block, entered, constant, xored, anded, flipped, told, in_row, Stand}
+use Rattle.gate_plan.specs.Bristol.{gates_of_end, gates_of_and, gates_of_kind, kind_gates, output_wire}
+use Rattle.gate_plan.proofs.NumberLemmas.{IsSilent}
+use Rattle.gate_plan.proofs.StandLemmas.{AreBits, later_bits, AllGates, all_none, length_row, stand_row, all_row}
+use Rattle.gate_plan.proofs.BlockLemmas.{Fits, constant_fits, xored_fits, anded_fits, flipped_fits, constant_silent, xored_silent, anded_silent, flipped_silent}
 
--- ---- what they give
+-- ---- how many they are
 
--- a gate gives one bit that is shared by XOR, and tells nothing
-pub record IsBit (gate : Gate) : Type 0 where
-  pub vector : gives gate.kind ≡ Vector
-  pub width : gate.width ≡ 1
-  pub silent : receiver_of gate.kind ≡ None
+pub entered_size : (keys : Bool) (n w party k at : ℕ) → length (entered keys n w party k at).gates ≡ gates_of_end keys
+entered_size false n w party k at = refl
+entered_size true n w party k at = refl
 
-abbrev pub AreBits : List Gate → Type 0
-AreBits gates = AllByRecursion IsBit gates
+pub told_size : (keys : Bool) (n w : ℕ) (a : Wire) (to : Receiver) → length (told keys n w a to).gates ≡ gates_of_end keys
+told_size false n w a to = refl
+told_size true n w a to = refl
 
-pub bits_each : (n : ℕ) (f : ℕ → Gate) → ((i : ℕ) → IsBit (f i)) → AreBits (each n f)
-bits_each zero f is = tt
-bits_each (suc n) f is = all_append IsBit (each n f) (f n ∷ []) (bits_each n f is) (is n, tt)
+pub anded_size : (keys : Bool) (n w : ℕ) (a b : Wire) → length (anded keys n w a b).gates ≡ gates_of_and keys
+anded_size false n w a b = refl
+anded_size true n w a b = refl
 
--- the bit of a gate among the first of some
-pub bit_value : (gates : List Gate) (x bound : ℕ) → AreBits gates → x < length gates → x < bound →
-    IsValue gates bound Vector x 1
-bit_value gates x bound are within below =
-    let here = some_at gates x within in
-    let is = all_at IsBit gates x here.0 are here.1 in
-    record { below = below; gate = here.0; there = here.1; given_is = is.vector; width_is = is.width }
+pub length_kind : (keys : Bool) (kind : BristolKind) (x : ℕ → Wire) (word outs n : ℕ) →
+    length (kind_gates keys kind x word outs n) ≡ gates_of_kind keys kind outs
+length_kind false Mand x word outs n =
+    length_row 1 outs (λ i. (anded false (n + 1 * i) 1 (x i) (x (outs + i))).gates) (λ i. refl) ∙ omega arith
+length_kind true Mand x word outs n =
+    length_row 3 outs (λ i. (anded true (n + 3 * i) 1 (x i) (x (outs + i))).gates) (λ i. refl)
+length_kind false _ x word outs n = refl
+length_kind true _ x word outs n = refl
 
--- ---- which may stand
+-- ---- the wires that they give, whatever they take
 
-module _ (plan : Gates) (n : ℕ) where
-  pub fits_input : (party k at : ℕ) → party < plan.parties → IsGate plan n (bit_gate (InB party k at))
-  fits_input party k at h = bits_gate plan n (InB party k at) 1 (λ e. cc) (omega arith) (omega arith)
-      (omega arith) tt tt h
+xored_wire : (keys : Bool) (n w : ℕ) (a b c d : Wire) → (xored keys n w a b).wire ≡ (xored keys n w c d).wire
+xored_wire false n w a b c d = refl
+xored_wire true n w a b c d = refl
 
-  fits_constant : (c : ℕ) → c < 2 → IsGate plan n (bit_gate (ConstB c))
-  fits_constant c h = bits_gate plan n (ConstB c) 1 (λ e. cc) (omega arith) (omega arith)
-      (omega (arith, h)) tt tt tt
+pub anded_wire : (keys : Bool) (n w : ℕ) (a b c d : Wire) → (anded keys n w a b).wire ≡ (anded keys n w c d).wire
+anded_wire false n w a b c d = refl
+anded_wire true n w a b c d = refl
 
-  fits_xor : (x y : ℕ) → IsValue plan.gates n Vector x 1 → IsValue plan.gates n Vector y 1 →
-      IsGate plan n (bit_gate (XorB x y))
-  fits_xor x y a b =
-      bits_gate plan n (XorB x y) 1 (λ e. cc) (omega arith) (omega arith) (omega arith)
-      (value_operand a, (value_operand b, tt)) (value_width a, (value_width b, tt)) tt
+constant_wire : (keys : Bool) (n w c d : ℕ) → (constant keys n w c).wire ≡ (constant keys n w d).wire
+constant_wire false n w c d = refl
+constant_wire true n w c d = refl
 
-  fits_and : (x y : ℕ) → IsValue plan.gates n Vector x 1 → IsValue plan.gates n Vector y 1 →
-      IsGate plan n (bit_gate (AndB x y))
-  fits_and x y a b =
-      bits_gate plan n (AndB x y) 1 (λ e. cc) (omega arith) (omega arith) (omega arith)
-      (value_operand a, (value_operand b, tt)) (value_width a, (value_width b, tt)) tt
+-- those of output i are the wire of the block that gives it
+pub xor_output : (keys : Bool) (x : ℕ → Wire) (n i : ℕ) → (xored keys n 1 (x 0) (x 1)).wire ≡ output_wire keys Xor (x 0) n i
+xor_output keys x n i = xored_wire keys n 1 (x 0) (x 1) (x 0) (x 0)
 
-  fits_not : (x : ℕ) → IsValue plan.gates n Vector x 1 → IsGate plan n (bit_gate (XorConstB x 1))
-  fits_not x a =
-      bits_gate plan n (XorConstB x 1) 1 (λ e. cc) (omega arith) (omega arith) (omega arith)
-      (value_operand a, tt) (value_width a, tt) tt
+pub and_output : (keys : Bool) (x : ℕ → Wire) (n i : ℕ) → (anded keys n 1 (x 0) (x 1)).wire ≡ output_wire keys And (x 0) n i
+and_output keys x n i = anded_wire keys n 1 (x 0) (x 1) (x 0) (x 0)
 
-  pub fits_output : (x : ℕ) → IsValue plan.gates n Vector x 1 → IsGate plan n (bit_gate (OutB x All))
-  fits_output x a =
-      bits_gate plan n (OutB x All) 1 (λ e. cc) (omega arith) (omega arith) (omega arith)
-      (value_operand a, tt) (value_width a, tt) tt
+pub constant_output : (keys : Bool) (x : ℕ → Wire) (word n i : ℕ) → (constant keys n 1 word).wire ≡ output_wire keys Eq (x 0) n i
+constant_output keys x word n i = constant_wire keys n 1 word 0
 
--- gates of which each may stand at its place
-pub all_each : (plan : Gates) (n count : ℕ) (f : ℕ → Gate) →
-    ((i : ℕ) → i < count → IsGate plan (n + i) (f i)) → AllGates plan n (each count f)
-all_each plan n count f is = record {
-  each = λ i gate e.
-      let within = inside_of (each count f) i gate e in
-      let size = length-each count f in
-      let small : i < count = omega (arith, within, size) in
-      subst (IsGate plan (n + i)) (same_some (f i) gate (sym (slice_get-each count f i small) ∙ e))
-      (is i small);
-}
+pub mand_output : (keys : Bool) (x : ℕ → Wire) (outs n i : ℕ) →
+    (anded keys (n + gates_of_and keys * i) 1 (x i) (x (outs + i))).wire ≡ output_wire keys Mand (x 0) n i
+mand_output keys x outs n i = anded_wire keys (n + gates_of_and keys * i) 1 (x i) (x (outs + i)) (x 0) (x 0)
 
--- the gates of a kind may stand behind those of its inputs
-pub kind_fits : (plan : Gates) (n : ℕ) (kind : BristolKind) (x : ℕ → Wire) (word ins outs : ℕ) →
-    is_arity kind ins outs ≡ true →
-    (is_constant kind ≡ false → (k : ℕ) → k < ins → IsValue plan.gates n Vector (x k).gate 1) →
-    (is_constant kind ≡ true → word < 2) →
-    AllGates plan n (kind_gates kind x word outs)
-kind_fits plan n Xor x word ins outs arity given constant =
-    let two = eqb-true ins 2 (and_parts (ins == 2) (outs == 1) arity).0 in
-    all_one plan n (bit_gate (XorB (x 0).gate (x 1).gate))
-    (fits_xor plan n (x 0).gate (x 1).gate (given refl 0 (omega arith)) (given refl 1 (omega arith)))
-kind_fits plan n And x word ins outs arity given constant =
-    let two = eqb-true ins 2 (and_parts (ins == 2) (outs == 1) arity).0 in
-    all_one plan n (bit_gate (AndB (x 0).gate (x 1).gate))
-    (fits_and plan n (x 0).gate (x 1).gate (given refl 0 (omega arith)) (given refl 1 (omega arith)))
-kind_fits plan n Inv x word ins outs arity given constant =
-    let one = eqb-true ins 1 (and_parts (ins == 1) (outs == 1) arity).0 in
-    all_one plan n (bit_gate (XorConstB (x 0).gate 1))
-    (fits_not plan n (x 0).gate (given refl 0 (omega arith)))
-kind_fits plan n Eq x word ins outs arity given constant =
-    all_one plan n (bit_gate (ConstB word)) (fits_constant plan n word (constant refl))
-kind_fits plan n Eqw x word ins outs arity given constant = all_none plan n
-kind_fits plan n Mand x word ins outs arity given constant =
-    let both = eqb-true ins (2 * outs) (and_parts (nat_le 1 outs) (ins == 2 * outs) arity).1 in
-    all_each plan n outs (λ i. bit_gate (AndB (x i).gate (x (outs + i)).gate))
-    (λ i h. fits_and plan (n + i) (x i).gate (x (outs + i)).gate
-    (later (n + i) (omega arith) (given refl i (omega (arith, h, both))))
-    (later (n + i) (omega arith) (given refl (outs + i) (omega (arith, h, both)))))
+-- ---- they tell nothing
+
+pub silent_row : (count : ℕ) (f : ℕ → List Gate) → ((i : ℕ) → AllByRecursion IsSilent (f i)) →
+    AllByRecursion IsSilent (in_row count f)
+silent_row zero f each = tt
+silent_row (suc i) f each = all_append IsSilent (in_row i f) (f i) (silent_row i f each) (each i)
+
+pub kind_silent : (keys : Bool) (kind : BristolKind) (x : ℕ → Wire) (word outs n : ℕ) →
+    AllByRecursion IsSilent (kind_gates keys kind x word outs n)
+kind_silent keys Xor x word outs n = xored_silent keys n 1 (x 0) (x 1)
+kind_silent keys And x word outs n = anded_silent keys n 1 (x 0) (x 1)
+kind_silent keys Inv x word outs n = flipped_silent keys n 1 (x 0) 1
+kind_silent keys Eq x word outs n = constant_silent keys n 1 word
+kind_silent keys Eqw x word outs n = tt
+kind_silent keys Mand x word outs n =
+    silent_row outs (λ i. (anded keys (n + gates_of_and keys * i) 1 (x i) (x (outs + i))).gates)
+    (λ i. anded_silent keys (n + gates_of_and keys * i) 1 (x i) (x (outs + i)))
+
+-- ---- they may stand behind those of their inputs
+
+-- one of so many ANDs stands before the end of all
+within_ands : (keys : Bool) (i count : ℕ) → i < count → gates_of_and keys * i + gates_of_and keys ≤ gates_of_kind keys Mand count
+within_ands false i count h = omega (arith, h)
+within_ands true i count h = omega (arith, h)
+
+module _ (plan : Gates) (n : ℕ) (keys : Bool) where
+  -- the gates of a kind, and the wires of its outputs
+  pub record KindFits (kind : BristolKind) (x : ℕ → Wire) (word outs : ℕ) : Type 0 where
+    pub gates : AllGates plan n (kind_gates keys kind x word outs n)
+    pub value : (i : ℕ) → i < outs →
+        AreBits keys plan.gates (n + gates_of_kind keys kind outs) (output_wire keys kind (x 0) n i) 1
+
+  -- of a kind with one block
+  by_block : (kind : BristolKind) (x : ℕ → Wire) (word outs : ℕ) (b : Block) → Fits plan n 1 b keys →
+      kind_gates keys kind x word outs n ≡ b.gates → ((i : ℕ) → b.wire ≡ output_wire keys kind (x 0) n i) →
+      KindFits kind x word outs
+  by_block kind x word outs b fits gates wire =
+      let size = length_kind keys kind x word outs n in
+      let same = ap (λ (gs : List Gate). length gs) gates in
+      record {
+        gates = subst (AllGates plan n) (sym gates) fits.gates;
+        value = λ i h. subst (λ (a : Wire). AreBits keys plan.gates (n + gates_of_kind keys kind outs) a 1) (wire i)
+            (later_bits keys plan.gates (n + length b.gates) (n + gates_of_kind keys kind outs) b.wire 1
+            (omega (arith, size, same)) fits.value);
+      }
+
+  pub kind_fits : (kind : BristolKind) (x : ℕ → Wire) (word ins outs : ℕ) → is_arity kind ins outs ≡ true →
+      (is_constant kind ≡ false → (k : ℕ) → k < ins → AreBits keys plan.gates n (x k) 1) →
+      (is_constant kind ≡ true → word < 2) →
+      Stand plan.gates n (kind_gates keys kind x word outs n) → KindFits kind x word outs
+  kind_fits Xor x word ins outs arity given fixed stand =
+      let two = eqb-true ins 2 (and_parts (ins == 2) (outs == 1) arity).0 in
+      by_block Xor x word outs (xored keys n 1 (x 0) (x 1))
+      (xored_fits plan n 1 (omega arith) (omega arith) keys (x 0) (x 1) (given refl 0 (omega arith))
+      (given refl 1 (omega arith)) stand) refl (xor_output keys x n)
+  kind_fits And x word ins outs arity given fixed stand =
+      let two = eqb-true ins 2 (and_parts (ins == 2) (outs == 1) arity).0 in
+      by_block And x word outs (anded keys n 1 (x 0) (x 1))
+      (anded_fits plan n 1 (omega arith) (omega arith) keys (x 0) (x 1) (given refl 0 (omega arith))
+      (given refl 1 (omega arith)) stand) refl (and_output keys x n)
+  kind_fits Inv x word ins outs arity given fixed stand =
+      let one = eqb-true ins 1 (and_parts (ins == 1) (outs == 1) arity).0 in
+      by_block Inv x word outs (flipped keys n 1 (x 0) 1)
+      (flipped_fits plan n 1 (omega arith) (omega arith) keys (x 0) 1 (omega arith) (given refl 0 (omega arith)) stand)
+      refl (λ i. refl)
+  kind_fits Eq x word ins outs arity given fixed stand =
+      by_block Eq x word outs (constant keys n 1 word)
+      (constant_fits plan n 1 (omega arith) (omega arith) keys word (fixed refl) stand) refl
+      (constant_output keys x word n)
+  kind_fits Eqw x word ins outs arity given fixed stand =
+      let one = eqb-true ins 1 (and_parts (ins == 1) (outs == 1) arity).0 in
+      record {
+        gates = all_none plan n;
+        value = λ i h. later_bits keys plan.gates n (n + gates_of_kind keys Eqw outs) (x 0) 1 (omega arith)
+            (given refl 0 (omega arith));
+      }
+  kind_fits Mand x word ins outs arity given fixed stand =
+      let both = eqb-true ins (2 * outs) (and_parts (nat_le 1 outs) (ins == 2 * outs) arity).1 in
+      record {
+        gates = all_row plan n (gates_of_and keys) outs f (λ i. size i)
+            (λ i h. (fits i h (omega (arith, both, h))).gates);
+        value = λ i h.
+            let within = within_ands keys i outs h in
+            let own = size i in
+            subst (λ (a : Wire). AreBits keys plan.gates (n + gates_of_kind keys Mand outs) a 1) (mand_output keys x outs n i)
+            (later_bits keys plan.gates (n + gates_of_and keys * i + length (f i)) (n + gates_of_kind keys Mand outs)
+            (block i).wire 1 (omega (arith, within, own)) (fits i h (omega (arith, both, h))).value);
+      }
+    where
+      block : ℕ → Block
+      block i = anded keys (n + gates_of_and keys * i) 1 (x i) (x (outs + i))
+
+      f : ℕ → List Gate
+      f i = (anded keys (n + gates_of_and keys * i) 1 (x i) (x (outs + i))).gates
+
+      size : (i : ℕ) → length (f i) ≡ gates_of_and keys
+      size i = anded_size keys (n + gates_of_and keys * i) 1 (x i) (x (outs + i))
+
+      fits : (i : ℕ) → i < outs → outs + outs ≤ ins →
+          Fits plan (n + gates_of_and keys * i) 1
+          (anded keys (n + gates_of_and keys * i) 1 (x i) (x (outs + i))) keys
+      fits i h many =
+          anded_fits plan (n + gates_of_and keys * i) 1 (omega arith) (omega arith) keys (x i) (x (outs + i))
+          (later_bits keys plan.gates n (n + gates_of_and keys * i) (x i) 1 (omega arith) (given refl i (omega (arith, h, many))))
+          (later_bits keys plan.gates n (n + gates_of_and keys * i) (x (outs + i)) 1 (omega arith)
+          (given refl (outs + i) (omega (arith, h, many))))
+          (stand_row plan.gates n (gates_of_and keys) outs f size stand i h)

@@ -1,14 +1,14 @@
 -- Statements that are built.
-use Rattle.std.proofs.Common.{ℕ, zero, suc, ◌≡◌, ◌+◌, ◌&&◌, Bool, true, false, not, List, [], ◌∷◌, ◌++◌, take, Option, Some, None, refl, sym, ◌∙◌, ap, ap₂}
+use Rattle.std.proofs.Common.{ℕ, zero, suc, ◌≡◌, ◌+◌, ◌&&◌, Bool, true, false, List, [], ◌∷◌, ◌++◌, take, Option, Some, None, refl, sym, ◌∙◌, ap, ap₂}
 use Rattle.std.specs.Prelude.{slice_get, option_and_then}
 use Rattle.std.specs.List.{list_all}
-use Rattle.mot_base.proofs.Lists.{same_some, take_next, and_false, both_true, not_true}
+use Rattle.mot_base.proofs.Lists.{same_some, take_next, and_false, both_true}
 use Rattle.share_types.specs.declared.sharing.WireType.{WireType}
 use Rattle.mixed_language.specs.Language.{states, is_name_slot}
 use Rattle.mixed_language.specs.Circuit.{Circuit, Statement, wire_at}
 use Rattle.mixed_language.specs.Valid.{IsStatement, IsCircuit}
 use Rattle.mixed_language.specs.Table.{told_value}
-use Rattle.gate_plan.specs.Lowering.{wire_handled, is_keys, is_conversion, is_built, all_built}
+use Rattle.gate_plan.specs.Lowering.{wire_handled, is_operation_built, is_built, all_built}
 use Rattle.gate_plan.proofs.OperationLemmas.{own_handled}
 
 -- ---- tests of all statements, one after another
@@ -43,21 +43,8 @@ test_at test (y ∷ ys) (suc n) x all e = test_at test ys n x (both_true (test y
 -- ---- a statement that is built
 
 pub built_at : (c : Circuit) (at : ℕ) (s : Statement) → all_built c ≡ true →
-    slice_get c.statements at ≡ Some s → is_built c.statements s ≡ true
-built_at c at s built there = test_at (is_built c.statements) c.statements at s built there
-
--- it converts nothing, and what it handles is not shared as keys
-pub converts_nothing : (all : List Statement) (s : Statement) → is_built all s ≡ true →
-    is_conversion s.shape.operation ≡ false
-converts_nothing all s built =
-    not_true (is_conversion s.shape.operation)
-    (both_true (not (is_conversion s.shape.operation)) (not (is_keys (wire_handled all s))) built).0
-
-pub handles_no_keys : (all : List Statement) (s : Statement) → is_built all s ≡ true →
-    is_keys (wire_handled all s) ≡ false
-handles_no_keys all s built =
-    not_true (is_keys (wire_handled all s))
-    (both_true (not (is_conversion s.shape.operation)) (not (is_keys (wire_handled all s))) built).1
+    slice_get c.statements at ≡ Some s → is_operation_built s.shape.operation ≡ true
+built_at c at s built there = test_at is_built c.statements at s built there
 
 -- a value is what its own statement handles
 pub handled_own : (c : Circuit) (at : ℕ) (s : Statement) (w : WireType) → IsCircuit c →

@@ -13,23 +13,30 @@ use Rattle.share_types.specs.declared.sharing.WireType.{WireType}
 use Rattle.share_types.specs.declared.sharing.WireType.TheVariants as wire
 use Rattle.share_types.specs.Wires.{sharing_of, is_shared, wire_type, width_of, party_told}
 use Rattle.mixed_language.specs.declared.language.Operation.{Operation}
-use Rattle.mixed_language.specs.declared.language.Operation.TheVariants.{InputWord, InputBits, ConstWord, ConstBits, Add, Sub, Mul, AddConst, MulConst, Xor, And, Not, Slice, Join, Output}
+use Rattle.mixed_language.specs.declared.language.Operation.TheVariants.{InputWord, InputBits, ConstWord, ConstBits, Add, Sub, Mul, AddConst, MulConst, Xor, And, Not, Slice, Join, Y2B, Output}
 use Rattle.mixed_language.specs.declared.operand.Operand.{Operand}
 use Rattle.mixed_language.specs.declared.language.Widths.TheVariants.{Cut, Joined}
 use Rattle.mixed_language.specs.Language.{domain_of, widths_of, is_in, gives, arity_of, states, is_name_slot, is_width_slot}
 use Rattle.mixed_language.specs.Operands.{width_by, alike_width}
 use Rattle.mixed_language.specs.Wide.{IsWide}
 use Rattle.plan_gates.specs.Gate as planned
-use Rattle.plan_gates.specs.Gate.{Kind, Given, Word, Vector, gate_of, uses, operands, constant_of, party_of, width_at, InA, ConstA, AddA, SubA, AddConstA, MulConstA, MulA, OutA, InB, ConstB, XorB, XorConstB, SliceB, JoinB, AndB, OutB}
-use Rattle.plan_gates.specs.Plan.{Gates, IsOperand, FitWidths, IsGate}
+use Rattle.plan_gates.specs.Gate.{Kind, Word, gate_of, uses, operands, constant_of, party_of, width_at, InA, ConstA, AddA, SubA, AddConstA, MulConstA, MulA, OutA, OutB}
+use Rattle.plan_gates.specs.Plan.{Gates, IsOperand, FitWidths, ArePaired, IsGate}
+use Rattle.gate_plan.specs.declared.wire.Wire.{Wire}
 use Rattle.gate_plan.specs.Blocks.{one, Stand}
 use Rattle.gate_plan.specs.Lowering.{Source, block_of, is_operation_built, is_keys, is_word}
-use Rattle.gate_plan.proofs.StandLemmas.{first_of, IsValue, value_width, value_operand, own_value, bits_gate, word_gate, AllGates, all_one}
+use Rattle.gate_plan.proofs.StandLemmas.{first_of, IsValue, value_width, value_operand, own_value, AreBits, IsShared, bits_gate, word_gate, AllGates, all_one}
+use Rattle.gate_plan.proofs.BlockLemmas.{entered_fits, constant_fits, xored_fits, anded_fits, flipped_fits, sliced_fits, joined_fits, vector_fits, told_fits}
 
--- what the gate of a value gives that is shared so
-abbrev pub given_of : Sharing → Given
-given_of A = Word
-given_of _ = Vector
+-- how bits are shared, as keys or by XOR
+abbrev pub of_bits : Bool → Sharing
+of_bits false = B
+of_bits true = Y
+
+as_bits : (keys : Bool) (gates : List planned.Gate) (bound : ℕ) (a : Wire) (width : ℕ) →
+    IsShared (of_bits keys) gates bound a width → AreBits keys gates bound a width
+as_bits false gates bound a width is = is
+as_bits true gates bound a width is = is
 
 pub shared_same : (given : Sharing) (w : WireType) → is_shared given w ≡ true → sharing_of w ≡ given
 shared_same A wire.A e = refl
@@ -95,10 +102,8 @@ pub record Sound (plan : Gates) (n : ℕ) (op : Operation) (given : Sharing) (v 
   pub arity : length os ≡ arity_of op
   pub wide : width_by (widths_of op) stated v.place os ≡ Some width
   pub shared : (i : ℕ) (o : Operand) → slice_get os i ≡ Some o → is_shared given o.wire ≡ true
-  pub x : (o : Operand) → slice_get os 0 ≡ Some o → IsValue plan.gates n (given_of given) v.x.gate
-      (width_of o.wire)
-  pub y : (o : Operand) → slice_get os 1 ≡ Some o → IsValue plan.gates n (given_of given) v.y.gate
-      (width_of o.wire)
+  pub x : (o : Operand) → slice_get os 0 ≡ Some o → IsShared given plan.gates n v.x (width_of o.wire)
+  pub y : (o : Operand) → slice_get os 1 ≡ Some o → IsShared given plan.gates n v.y (width_of o.wire)
   pub party : v.party < plan.parties
   pub to : IfSome (party_told v.to) (λ party. party < plan.parties)
   pub constant : v.constant < 2 ^ stated
@@ -123,47 +128,62 @@ module _ (plan : Gates) (n : ℕ) (op : Operation) (v : Source) (stated : ℕ) (
             (word_wide t.y.wire (sound.shared 1 t.y t.second) ∙ sym whole) (sound.y t.y t.second),
       )
 
-  one_vector : Sound plan n op B v stated os width → length os ≡ 1 → alike_width os ≡ Some width →
-      v.width ≡ width →
-      IsValue plan.gates n Vector v.x.gate v.width
-  one_vector sound one alike same =
+  -- bits of the first operand, and of both
+  first_bits : (keys : Bool) → Sound plan n op (of_bits keys) v stated os width → (o : Operand) →
+      slice_get os 0 ≡ Some o → (w : ℕ) → width_of o.wire ≡ w → AreBits keys plan.gates n v.x w
+  first_bits keys sound o first w same =
+      subst (AreBits keys plan.gates n v.x) same (as_bits keys plan.gates n v.x (width_of o.wire) (sound.x o first))
+
+  second_bits : (keys : Bool) → Sound plan n op (of_bits keys) v stated os width → (o : Operand) →
+      slice_get os 1 ≡ Some o → (w : ℕ) → width_of o.wire ≡ w → AreBits keys plan.gates n v.y w
+  second_bits keys sound o second w same =
+      subst (AreBits keys plan.gates n v.y) same (as_bits keys plan.gates n v.y (width_of o.wire) (sound.y o second))
+
+  one_vector : (keys : Bool) → Sound plan n op (of_bits keys) v stated os width → length os ≡ 1 →
+      alike_width os ≡ Some width → v.width ≡ width → AreBits keys plan.gates n v.x v.width
+  one_vector keys sound one alike same =
       let t = one_operand os one in
       let w = one_width t.x width (subst (λ zs. alike_width zs ≡ Some width) t.is alike) in
-      subst (IsValue plan.gates n Vector v.x.gate) (w ∙ sym same) (sound.x t.x t.first)
+      first_bits keys sound t.x t.first v.width (w ∙ sym same)
 
-  two_vectors : Sound plan n op B v stated os width → length os ≡ 2 → alike_width os ≡ Some width →
-      v.width ≡ width →
-      IsValue plan.gates n Vector v.x.gate v.width × IsValue plan.gates n Vector v.y.gate v.width
-  two_vectors sound two alike same =
+  two_vectors : (keys : Bool) → Sound plan n op (of_bits keys) v stated os width → length os ≡ 2 →
+      alike_width os ≡ Some width → v.width ≡ width →
+      AreBits keys plan.gates n v.x v.width × AreBits keys plan.gates n v.y v.width
+  two_vectors keys sound two alike same =
       let t = two_operands os two in
       let w = two_widths t.x t.y width (subst (λ zs. alike_width zs ≡ Some width) t.is alike) in (
-        subst (IsValue plan.gates n Vector v.x.gate) (w.0 ∙ sym same) (sound.x t.x t.first),
-        subst (IsValue plan.gates n Vector v.y.gate) (w.1 ∙ sym same) (sound.y t.y t.second),
+        first_bits keys sound t.x t.first v.width (w.0 ∙ sym same),
+        second_bits keys sound t.y t.second v.width (w.1 ∙ sym same),
       )
 
   -- bits that are cut out lie within the operand
-  cut_vector : Sound plan n op B v stated os width → length os ≡ 1 →
+  cut_vector : (keys : Bool) → Sound plan n op (of_bits keys) v stated os width → length os ≡ 1 →
       width_by Cut stated v.place os ≡ Some width → v.width ≡ width →
-      (low : ℕ) × IsValue plan.gates n Vector v.x.gate low × (v.place + v.width ≤ low)
-  cut_vector sound one cut same =
+      (low : ℕ) × AreBits keys plan.gates n v.x low × (v.place + v.width ≤ low)
+  cut_vector keys sound one cut same =
       let t = one_operand os one in
       let parted = tested (nat_le (v.place + stated) (width_of t.x.wire)) stated width
       (subst (λ zs. width_by Cut stated v.place zs ≡ Some width) t.is cut) in
       let within = leb-true _ _ parted.0 in
       let whole = parted.1 in
-      (width_of t.x.wire, sound.x t.x t.first, omega (arith, within, whole, same))
+      (width_of t.x.wire, first_bits keys sound t.x t.first (width_of t.x.wire) refl, omega (arith, within, whole, same))
 
   -- bits that are joined are those of both operands
-  joined_vectors : Sound plan n op B v stated os width → length os ≡ 2 →
+  joined_vectors : (keys : Bool) → Sound plan n op (of_bits keys) v stated os width → length os ≡ 2 →
       width_by Joined stated v.place os ≡ Some width → v.width ≡ width →
-      (low high : ℕ) × IsValue plan.gates n Vector v.x.gate low × IsValue plan.gates n Vector v.y.gate high ×
+      (low high : ℕ) × AreBits keys plan.gates n v.x low × AreBits keys plan.gates n v.y high ×
       (v.width ≡ low + high)
-  joined_vectors sound two joined same =
+  joined_vectors keys sound two joined same =
       let t = two_operands os two in
       let parted = tested (nat_le (width_of t.x.wire + width_of t.y.wire) most_width)
       (width_of t.x.wire + width_of t.y.wire) width
-      (subst (λ zs. width_by Joined stated v.place zs ≡ Some width) t.is joined) in
-      (width_of t.x.wire, width_of t.y.wire, sound.x t.x t.first, sound.y t.y t.second, same ∙ sym parted.1)
+      (subst (λ zs. width_by Joined stated v.place zs ≡ Some width) t.is joined) in (
+        width_of t.x.wire,
+        width_of t.y.wire,
+        first_bits keys sound t.x t.first (width_of t.x.wire) refl,
+        second_bits keys sound t.y t.second (width_of t.y.wire) refl,
+        same ∙ sym parted.1,
+      )
 
 -- ---- each operation
 
@@ -171,155 +191,165 @@ module _ (plan : Gates) (n : ℕ) where
   -- the gates of an operation may stand where they do, and give its value
   pub record IsFit (op : Operation) (keys : Bool) (given : Sharing) (v : Source) : Type 0 where
     pub gates : AllGates plan n (block_of op keys v n).gates
-    pub value : IsValue plan.gates (n + length (block_of op keys v n).gates) (given_of (gives op given))
-        (block_of op keys v n).wire.gate v.width
+    pub value : IsShared (gives op given) plan.gates (n + length (block_of op keys v n).gates)
+        (block_of op keys v n).wire v.width
 
-  -- both of one gate
-  abbrev FitsAlone : Kind → ℕ → Given → Type 0
-  FitsAlone kind w given = AllGates plan n (gate_of kind w ∷ []) × IsValue plan.gates (n + 1) given n w
-
-  alone : (kind : Kind) (w : ℕ) (given : Given) → Stand plan.gates n (gate_of kind w ∷ []) →
-      planned.gives kind ≡ given → IsGate plan n (gate_of kind w) → FitsAlone kind w given
-  alone kind w given stand is gate = (
-    all_one plan n (gate_of kind w) gate,
-    own_value plan.gates n (gate_of kind w) given (first_of plan.gates n (gate_of kind w) [] stand) is,
-  )
+  -- both of one gate on words
+  abbrev FitsAlone : Kind → ℕ → Type 0
+  FitsAlone kind w = AllGates plan n (gate_of kind w ∷ []) × IsValue plan.gates (n + 1) Word n w
 
   of_word : (kind : Kind) (w : ℕ) → Stand plan.gates n (gate_of kind w ∷ []) → planned.gives kind ≡ Word →
       w ≡ most_width → constant_of kind < 2 ^ w → AllByRecursion (IsOperand plan.gates n) (uses kind) →
-      FitWidths kind w (map (width_at plan.gates) (operands kind)) →
-      IfSome (party_of kind) (λ party. party < plan.parties) → FitsAlone kind w Word
-  of_word kind w stand is whole small before fits party =
-      alone kind w Word stand is (word_gate plan n kind w whole small before fits party)
+      FitWidths kind w (map (width_at plan.gates) (operands kind)) → ArePaired plan.gates kind →
+      IfSome (party_of kind) (λ party. party < plan.parties) → FitsAlone kind w
+  of_word kind w stand is whole small before fits paired party = (
+    all_one plan n (gate_of kind w) (word_gate plan n kind w whole small before fits paired party),
+    own_value plan.gates n (gate_of kind w) Word (first_of plan.gates n (gate_of kind w) [] stand) is,
+  )
 
-  of_vector : (kind : Kind) (w : ℕ) → Stand plan.gates n (gate_of kind w ∷ []) → planned.gives kind ≡ Vector →
-      1 ≤ w → w ≤ most_width → constant_of kind < 2 ^ w →
-      AllByRecursion (IsOperand plan.gates n) (uses kind) →
-      FitWidths kind w (map (width_at plan.gates) (operands kind)) →
-      IfSome (party_of kind) (λ party. party < plan.parties) → FitsAlone kind w Vector
-  of_vector kind w stand is some most small before fits party =
-      alone kind w Vector stand is
-      (bits_gate plan n kind w (λ e. let contrary = sym is ∙ e in cc) some most small before fits party)
+  -- a constant of bits fits the width of its line
+  constant_small : (v : Source) (stated width : ℕ) → v.constant < 2 ^ stated → stated ≡ width → v.width ≡ width →
+      v.constant < 2 ^ v.width
+  constant_small v stated width h is same = subst (λ (k : ℕ). v.constant < 2 ^ k) (is ∙ sym same) h
 
   pub fit : (op : Operation) (keys : Bool) (given : Sharing) (v : Source) (stated : ℕ) (os : List Operand)
       (width : ℕ) →
-      is_in (domain_of op) given ≡ true → states is_name_slot op ≡ true → is_operation_built op keys ≡ true →
+      is_in (domain_of op) given ≡ true → states is_name_slot op ≡ true → is_operation_built op ≡ true →
       keys ≡ is_keys (Some (wire_type (gives op given) width)) → Sound plan n op given v stated os width →
       1 ≤ v.width → v.width ≤ most_width → v.width ≡ width_of (wire_type (gives op given) width) →
       Stand plan.gates n (block_of op keys v n).gates → IsFit op keys given v
   fit InputWord keys A v stated os width domain names built alike sound some most same stand =
       let f =
       of_word (InA v.party v.k) v.width stand refl same (pow_pos v.width)
-      tt tt sound.party in
-      record { gates = f.0; value = f.1 }
-  fit InputBits false B v stated os width domain names built alike sound some most same stand =
-      let f =
-      of_vector (InB v.party v.k 0) v.width stand refl some most (pow_pos v.width)
-      tt tt sound.party in
+      tt tt tt sound.party in
       record { gates = f.0; value = f.1 }
   fit ConstWord keys A v stated os width domain names built alike sound some most same stand =
       let f =
       of_word (ConstA v.constant) v.width stand refl same
       (subst (λ (k : ℕ). v.constant < 2 ^ k) (sound.bare refl ∙ sym same) sound.constant)
-      tt tt tt in
-      record { gates = f.0; value = f.1 }
-  fit ConstBits false B v stated os width domain names built alike sound some most same stand =
-      let f =
-      of_vector (ConstB v.constant) v.width stand refl some most
-      (subst (λ (k : ℕ). v.constant < 2 ^ k) (same_some stated width sound.wide ∙ sym same) sound.constant)
-      tt tt tt in
+      tt tt tt tt in
       record { gates = f.0; value = f.1 }
   fit Add keys A v stated os width domain names built alike sound some most same stand =
       let u = two_words plan n Add v stated os width sound sound.arity same in
       let f =
       of_word (AddA v.x.gate v.y.gate) v.width stand refl same (pow_pos v.width)
-      (value_operand u.0, (value_operand u.1, tt)) (value_width u.0, (value_width u.1, tt)) tt in
+      (value_operand u.0, (value_operand u.1, tt)) (value_width u.0, (value_width u.1, tt)) tt tt in
       record { gates = f.0; value = f.1 }
   fit Sub keys A v stated os width domain names built alike sound some most same stand =
       let u = two_words plan n Sub v stated os width sound sound.arity same in
       let f =
       of_word (SubA v.x.gate v.y.gate) v.width stand refl same (pow_pos v.width)
-      (value_operand u.0, (value_operand u.1, tt)) (value_width u.0, (value_width u.1, tt)) tt in
+      (value_operand u.0, (value_operand u.1, tt)) (value_width u.0, (value_width u.1, tt)) tt tt in
       record { gates = f.0; value = f.1 }
   fit Mul keys A v stated os width domain names built alike sound some most same stand =
       let u = two_words plan n Mul v stated os width sound sound.arity same in
       let f =
       of_word (MulA v.x.gate v.y.gate) v.width stand refl same (pow_pos v.width)
-      (value_operand u.0, (value_operand u.1, tt)) (value_width u.0, (value_width u.1, tt)) tt in
+      (value_operand u.0, (value_operand u.1, tt)) (value_width u.0, (value_width u.1, tt)) tt tt in
       record { gates = f.0; value = f.1 }
   fit AddConst keys A v stated os width domain names built alike sound some most same stand =
       let u = one_word plan n AddConst v stated os width sound sound.arity same in
       let f =
       of_word (AddConstA v.x.gate v.constant) v.width stand refl same
       (subst (λ (k : ℕ). v.constant < 2 ^ k) (sound.bare refl ∙ sym same) sound.constant)
-      (value_operand u, tt) (value_width u, tt) tt in
+      (value_operand u, tt) (value_width u, tt) tt tt in
       record { gates = f.0; value = f.1 }
   fit MulConst keys A v stated os width domain names built alike sound some most same stand =
       let u = one_word plan n MulConst v stated os width sound sound.arity same in
       let f =
       of_word (MulConstA v.x.gate v.constant) v.width stand refl same
       (subst (λ (k : ℕ). v.constant < 2 ^ k) (sound.bare refl ∙ sym same) sound.constant)
-      (value_operand u, tt) (value_width u, tt) tt in
+      (value_operand u, tt) (value_width u, tt) tt tt in
       record { gates = f.0; value = f.1 }
+  fit InputBits false B v stated os width domain names built alike sound some most same stand =
+      let f = entered_fits plan n v.width some most false v.party v.k 0 sound.party stand in
+      record { gates = f.gates; value = f.value }
+  fit ConstBits false B v stated os width domain names built alike sound some most same stand =
+      let small = constant_small v stated width sound.constant (same_some stated width sound.wide) same in
+      let f = constant_fits plan n v.width some most false v.constant small stand in
+      record { gates = f.gates; value = f.value }
   fit Xor false B v stated os width domain names built alike sound some most same stand =
-      let u = two_vectors plan n Xor v stated os width sound sound.arity sound.wide same in
-      let f =
-      of_vector (XorB v.x.gate v.y.gate) v.width stand refl some most (pow_pos v.width)
-      (value_operand u.0, (value_operand u.1, tt)) (value_width u.0, (value_width u.1, tt)) tt in
-      record { gates = f.0; value = f.1 }
+      let u = two_vectors plan n Xor v stated os width false sound sound.arity sound.wide same in
+      let f = xored_fits plan n v.width some most false v.x v.y u.0 u.1 stand in
+      record { gates = f.gates; value = f.value }
   fit And false B v stated os width domain names built alike sound some most same stand =
-      let u = two_vectors plan n And v stated os width sound sound.arity sound.wide same in
-      let f =
-      of_vector (AndB v.x.gate v.y.gate) v.width stand refl some most (pow_pos v.width)
-      (value_operand u.0, (value_operand u.1, tt)) (value_width u.0, (value_width u.1, tt)) tt in
-      record { gates = f.0; value = f.1 }
+      let u = two_vectors plan n And v stated os width false sound sound.arity sound.wide same in
+      let f = anded_fits plan n v.width some most false v.x v.y u.0 u.1 stand in
+      record { gates = f.gates; value = f.value }
   fit Not false B v stated os width domain names built alike sound some most same stand =
-      let u = one_vector plan n Not v stated os width sound sound.arity sound.wide same in
-      let f =
-      of_vector (XorConstB v.x.gate (2 ^ v.width - 1)) v.width stand refl some most
-      (pow-sub-lt v.width (omega arith))
-      (value_operand u, tt) (value_width u, tt) tt in
-      record { gates = f.0; value = f.1 }
+      let u = one_vector plan n Not v stated os width false sound sound.arity sound.wide same in
+      let f = flipped_fits plan n v.width some most false v.x (2 ^ v.width - 1) (pow-sub-lt v.width (omega arith)) u stand in
+      record { gates = f.gates; value = f.value }
   fit Slice false B v stated os width domain names built alike sound some most same stand =
-      let u = cut_vector plan n Slice v stated os width sound sound.arity sound.wide same in
-      let f =
-      of_vector (SliceB v.x.gate v.place) v.width stand refl some most (pow_pos v.width)
-      (value_operand u.1, tt) ((let low = value_width u.1 in let within = u.2 in omega arith), tt) tt in
-      record { gates = f.0; value = f.1 }
+      let u = cut_vector plan n Slice v stated os width false sound sound.arity sound.wide same in
+      let f = sliced_fits plan n v.width some most false v.x v.place u.0 u.1 u.2 stand in
+      record { gates = f.gates; value = f.value }
   fit Join false B v stated os width domain names built alike sound some most same stand =
-      let u = joined_vectors plan n Join v stated os width sound sound.arity sound.wide same in
-      let f =
-      of_vector (JoinB v.x.gate v.y.gate) v.width stand refl some most (pow_pos v.width)
-      (value_operand u.2, (value_operand u.3, tt))
-      (let low = value_width u.2 in let high = value_width u.3 in let both = u.4 in omega arith) tt in
-      record { gates = f.0; value = f.1 }
+      let u = joined_vectors plan n Join v stated os width false sound sound.arity sound.wide same in
+      let f = joined_fits plan n v.width some most false v.x v.y u.0 u.1 u.2 u.3 u.4 stand in
+      record { gates = f.gates; value = f.value }
+  fit InputBits true Y v stated os width domain names built alike sound some most same stand =
+      let f = entered_fits plan n v.width some most true v.party v.k 0 sound.party stand in
+      record { gates = f.gates; value = f.value }
+  fit ConstBits true Y v stated os width domain names built alike sound some most same stand =
+      let small = constant_small v stated width sound.constant (same_some stated width sound.wide) same in
+      let f = constant_fits plan n v.width some most true v.constant small stand in
+      record { gates = f.gates; value = f.value }
+  fit Xor true Y v stated os width domain names built alike sound some most same stand =
+      let u = two_vectors plan n Xor v stated os width true sound sound.arity sound.wide same in
+      let f = xored_fits plan n v.width some most true v.x v.y u.0 u.1 stand in
+      record { gates = f.gates; value = f.value }
+  fit And true Y v stated os width domain names built alike sound some most same stand =
+      let u = two_vectors plan n And v stated os width true sound sound.arity sound.wide same in
+      let f = anded_fits plan n v.width some most true v.x v.y u.0 u.1 stand in
+      record { gates = f.gates; value = f.value }
+  fit Not true Y v stated os width domain names built alike sound some most same stand =
+      let u = one_vector plan n Not v stated os width true sound sound.arity sound.wide same in
+      let f = flipped_fits plan n v.width some most true v.x (2 ^ v.width - 1) (pow-sub-lt v.width (omega arith)) u stand in
+      record { gates = f.gates; value = f.value }
+  fit Slice true Y v stated os width domain names built alike sound some most same stand =
+      let u = cut_vector plan n Slice v stated os width true sound sound.arity sound.wide same in
+      let f = sliced_fits plan n v.width some most true v.x v.place u.0 u.1 u.2 stand in
+      record { gates = f.gates; value = f.value }
+  fit Join true Y v stated os width domain names built alike sound some most same stand =
+      let u = joined_vectors plan n Join v stated os width true sound sound.arity sound.wide same in
+      let f = joined_fits plan n v.width some most true v.x v.y u.0 u.1 u.2 u.3 u.4 stand in
+      record { gates = f.gates; value = f.value }
+  fit Y2B keys Y v stated os width domain names built alike sound some most same stand =
+      let u = one_vector plan n Y2B v stated os width true sound sound.arity sound.wide same in
+      let f = vector_fits plan n v.width some most v.x u stand in
+      record { gates = f.gates; value = f.value }
   fit _ _ _ v stated os width domain names built alike sound some most same stand = cc
 
-  -- the gate of an output may stand behind the value that it tells
-  pub output_fits : (keys : Bool) (v : Source) (w : WireType) → is_operation_built Output keys ≡ true →
-      keys ≡ is_keys (Some w) →
-      IsValue plan.gates n (given_of (sharing_of w)) v.x.gate (width_of w) → IsWide w →
+  -- the gates of an output may stand behind the value that it tells
+  pub output_fits : (keys : Bool) (v : Source) (w : WireType) → keys ≡ is_keys (Some w) →
+      IsShared (sharing_of w) plan.gates n v.x (width_of w) → IsWide w →
       IfSome (party_told v.to) (λ party. party < plan.parties) →
-      v.is_word ≡ is_word (Some w) → v.width ≡ width_of w → AllGates plan n (block_of Output keys v n).gates
-  output_fits true v w built alike is wide to word same = cc
-  output_fits false v w built alike is wide to word same =
+      v.is_word ≡ is_word (Some w) → v.width ≡ width_of w → Stand plan.gates n (block_of Output keys v n).gates →
+      AllGates plan n (block_of Output keys v n).gates
+  output_fits true v (wire.Y width) alike is wide to word same stand =
+      let some = wide.0 in
+      let most = wide.1 in
+      told_fits plan n v.width (omega (arith, some, same)) (omega (arith, most, same)) true v.x v.to to
+      (subst (AreBits true plan.gates n v.x) (sym same) is) stand
+  output_fits true v _ alike is wide to word same stand = cc
+  output_fits false v w alike is wide to word same stand =
       all_one plan n (gate_of (cond v.is_word (OutA v.x.gate v.to) (OutB v.x.gate v.to)) v.width)
       (subst (λ (b : Bool). IsGate plan n
       (gate_of (cond b (OutA v.x.gate v.to) (OutB v.x.gate v.to)) v.width)) (sym word)
       (by_sharing w alike is wide same))
     where
       by_sharing : (w : WireType) → false ≡ is_keys (Some w) →
-          IsValue plan.gates n (given_of (sharing_of w)) v.x.gate (width_of w) → IsWide w →
-          v.width ≡ width_of w →
+          IsShared (sharing_of w) plan.gates n v.x (width_of w) → IsWide w → v.width ≡ width_of w →
           IsGate plan n
           (gate_of (cond (is_word (Some w)) (OutA v.x.gate v.to) (OutB v.x.gate v.to)) v.width)
       by_sharing wire.A alike is wide same =
           word_gate plan n (OutA v.x.gate v.to) v.width same (pow_pos v.width) (value_operand is, tt)
-          (value_width is ∙ sym same, tt) to
+          (value_width is ∙ sym same, tt) tt to
       by_sharing (wire.B width) alike is wide same =
           let some = wide.0 in
           let most = wide.1 in
           bits_gate plan n (OutB v.x.gate v.to) v.width (λ e. cc) (omega (arith, some, same))
           (omega (arith, most, same)) (pow_pos v.width)
-          (value_operand is, tt) (value_width is ∙ sym same, tt) to
+          (value_operand is, tt) (value_width is ∙ sym same, tt) tt to
       by_sharing (wire.Y width) alike is wide same = cc

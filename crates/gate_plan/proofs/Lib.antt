@@ -1,5 +1,7 @@
 pub mod StandLemmas
 pub mod NumberLemmas
+pub mod BlockLemmas
+pub mod ValueLemmas
 pub mod OperationLemmas
 pub mod FitLemmas
 pub mod HandledLemmas
@@ -10,6 +12,7 @@ pub mod KeepsLemmas
 pub mod StatementLemmas
 pub mod BristolCountLemmas
 pub mod BristolBitLemmas
+pub mod BristolInputLemmas
 pub mod BristolWireLemmas
 pub mod BristolPlanLemmas
 pub mod BristolValidLemmas

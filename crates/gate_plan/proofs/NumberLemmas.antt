@@ -8,7 +8,7 @@ use Rattle.std.proofs.lemmas.Option.{slice_get-map}
 use Rattle.mot_base.proofs.Lists.{mapped_some, index_at, inside_of, before_at, last_at, all_at}
 use Rattle.plan_gates.specs.Gate.{Gate, Use, uses, operands, receiver_of, low_width}
 use Rattle.plan_gates.specs.Plan.{Gates, IsOperand, IsPlan}
-use Rattle.plan_gates.specs.Plain.{Outside, operand_number, number_of, number_at, plain_before, plain_numbers, GateTold, told_entry, told_by}
+use Rattle.plan_gates.specs.Plain.{Outside, operand_number, operands_there, operands_behind, number_of, number_at, plain_before, plain_numbers, GateTold, told_entry, told_by}
 use Rattle.plan_gates.proofs.PlainLemmas.{length_plain}
 use Rattle.gate_plan.specs.Blocks.{AreNumbers}
 
@@ -52,39 +52,73 @@ operand_before plan valid g gate there k x e =
     let same = used.2 in
     omega (arith, below, same)
 
+-- and so do those of its first operand
+behind_before : (plan : Gates) → IsPlan plan → (g : ℕ) (gate : Gate) → slice_get plan.gates g ≡ Some gate →
+    (k x : ℕ) → slice_get (operands_behind plan.gates (slice_get (operands gate.kind) 0)) k ≡ Some x → x < g
+behind_before plan valid g gate there k x e = first (slice_get (operands gate.kind) 0) refl e
+  where
+    second : (t : ℕ) → t < g → (o : Option Gate) → slice_get plan.gates t ≡ o → slice_get (operands_there o) k ≡ Some x → x < g
+    second t h None found e = cc
+    second t h (Some table) found e =
+        let below = operand_before plan valid t table found k x e in omega (arith, h, below)
+
+    first : (o : Option ℕ) → slice_get (operands gate.kind) 0 ≡ o → slice_get (operands_behind plan.gates o) k ≡ Some x → x < g
+    first None found e = cc
+    first (Some t) found e =
+        second t (operand_before plan valid g gate there 0 t found) (slice_get plan.gates t) refl e
+
 pub plans_have_numbers : (plan : Gates) (outside : Outside) → IsPlan plan → AreNumbers plan.gates outside
     (plain_numbers plan outside)
 plans_have_numbers plan outside valid g gate there =
     plain_at plan.gates outside (length plan.gates) g within
     ∙ (ap (λ o. Some (number_at plan.gates outside (plain_before plan.gates outside g) o)) there
-    ∙ (ap₂ (λ x y. made x y (first 2)) (operand 0 (slice_get (operands gate.kind) 0) refl)
-    (operand 1 (slice_get (operands gate.kind) 1) refl)
-    ∙ ap (made (whole 0) (whole 1)) (operand 2 (slice_get (operands gate.kind) 2) refl)))
+    ∙ (ap₂ (λ x y. made x y (first (used 2)) (first (behind 0)) (first (behind 1))) (operand 0) (operand 1)
+    ∙ (ap₂ (λ z left. made (whole (used 0)) (whole (used 1)) z left (first (behind 1))) (operand 2) (hidden 0)
+    ∙ ap (made (whole (used 0)) (whole (used 1)) (whole (used 2)) (whole (behind 0))) (hidden 1))))
   where
-    made : ℕ → ℕ → ℕ → Option ℕ
-    made x y z = Some (number_of gate.kind (record {
+    made : ℕ → ℕ → ℕ → ℕ → ℕ → Option ℕ
+    made x y z left right = Some (number_of gate.kind (record {
       outside = outside;
       x = x;
       y = y;
       z = z;
       low = low_width plan.gates gate.kind;
+      left = left;
+      right = right;
     }) % 2 ^ gate.width)
 
-    first : ℕ → ℕ
-    first k = operand_number (plain_before plan.gates outside g) (slice_get (operands gate.kind) k)
+    first : Option ℕ → ℕ
+    first o = operand_number (plain_before plan.gates outside g) o
 
-    whole : ℕ → ℕ
-    whole k = operand_number (plain_numbers plan outside) (slice_get (operands gate.kind) k)
+    whole : Option ℕ → ℕ
+    whole o = operand_number (plain_numbers plan outside) o
+
+    used : ℕ → Option ℕ
+    used k = slice_get (operands gate.kind) k
+
+    behind : ℕ → Option ℕ
+    behind k = slice_get (operands_behind plan.gates (slice_get (operands gate.kind) 0)) k
 
     within : g < length plan.gates
     within = inside_of plan.gates g gate there
 
-    operand : (k : ℕ) (o : Option ℕ) → slice_get (operands gate.kind) k ≡ o →
+    same : (o : Option ℕ) → ((x : ℕ) → o ≡ Some x → x < g) →
         operand_number (plain_before plan.gates outside g) o ≡ operand_number (plain_numbers plan outside) o
-    operand k None e = refl
-    operand k (Some x) e =
-        plain_same plan.gates outside (length plan.gates) g x (operand_before plan valid g gate there k x e)
-        (omega (arith, within))
+    same None below = refl
+    same (Some x) below = plain_same plan.gates outside (length plan.gates) g x (below x refl) (omega (arith, within))
+
+    operand : (k : ℕ) →
+        operand_number (plain_before plan.gates outside g) (slice_get (operands gate.kind) k)
+        ≡ operand_number (plain_numbers plan outside) (slice_get (operands gate.kind) k)
+    operand k = same (slice_get (operands gate.kind) k) (λ x e. operand_before plan valid g gate there k x e)
+
+    hidden : (k : ℕ) →
+        operand_number (plain_before plan.gates outside g)
+        (slice_get (operands_behind plan.gates (slice_get (operands gate.kind) 0)) k)
+        ≡ operand_number (plain_numbers plan outside)
+        (slice_get (operands_behind plan.gates (slice_get (operands gate.kind) 0)) k)
+    hidden k = same (slice_get (operands_behind plan.gates (slice_get (operands gate.kind) 0)) k)
+        (λ x e. behind_before plan valid g gate there k x e)
 
 -- ---- what gates tell
 

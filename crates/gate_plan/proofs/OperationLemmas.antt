@@ -1,21 +1,26 @@
 -- The gates of an operation that is built: how many they are, what they tell, and the number of the value
 -- that they give.
-use Rattle.std.proofs.Common.{ℕ, ◌≡◌, ◌≤◌, ◌+◌, ◌-◌, ◌*◌, ◌/◌, ◌%◌, ◌^◌, Bool, true, false, cond, List, [], length, Some, refl, sym, ◌∙◌, ap, ap₂, arith}
-use Rattle.std.specs.Prelude.{slice_get, slice_index, bit_and, bit_xor}
+use Rattle.std.proofs.Common.{ℕ, ◌≡◌, ◌≤◌, ◌+◌, ◌-◌, ◌*◌, ◌/◌, ◌%◌, ◌^◌, Bool, true, false, cond, List, length, Some, refl, sym, ◌∙◌, ap, ap₂, subst, arith}
+use Rattle.std.specs.Prelude.{slice_index, bit_xor}
 use Rattle.std.specs.List.{AllByRecursion}
 use Rattle.std.proofs.Math.Nat.{div-one}
 use Rattle.share_types.specs.Sums.{word_difference}
+use Rattle.share_types.specs.declared.sharing.Sharing.{Sharing}
+use Rattle.share_types.specs.declared.sharing.Sharing.TheVariants.{A, B, Y}
+use Rattle.share_types.specs.Wires.{wire_type}
 use Rattle.mixed_language.specs.declared.language.Operation.{Operation}
 use Rattle.mixed_language.specs.declared.language.Operation.TheVariants.{InputWord, InputBits, ConstWord, ConstBits, Add, Sub, Mul, AddConst, MulConst, Xor, And, Not, Slice, Join, A2Y, A2B, B2Y, Y2B, B2A, Y2A, Output}
-use Rattle.mixed_language.specs.Language.{states, is_name_slot, is_told_slot, arity_of}
+use Rattle.mixed_language.specs.Language.{domain_of, is_in, gives, states, is_name_slot, is_told_slot, arity_of}
 use Rattle.mixed_language.specs.Eval.{number_made}
 use Rattle.mixed_language.specs.Eval as eval
-use Rattle.plan_gates.specs.Gate.{Kind, Gate, gate_of, InA, ConstA, AddA, SubA, AddConstA, MulConstA, MulA, OutA, InB, ConstB, XorB, XorConstB, SliceB, JoinB, AndB, OutB, width_at}
-use Rattle.plan_gates.specs.Plain.{Outside, number_of, seen_of}
-use Rattle.gate_plan.specs.Blocks.{one, Stand, AreNumbers}
-use Rattle.gate_plan.specs.Lowering.{Source, block_of, gates_of, is_operation_built, handled_by}
-use Rattle.gate_plan.proofs.StandLemmas.{first_of}
+use Rattle.plan_gates.specs.Gate.{InA, ConstA, AddA, SubA, AddConstA, MulConstA, MulA, OutA, OutB}
+use Rattle.plan_gates.specs.Plan.{Gates, IsPlan}
+use Rattle.plan_gates.specs.Plain.{Outside, number_of, seen_of, plain_numbers}
+use Rattle.gate_plan.specs.declared.wire.Wire.{Wire}
+use Rattle.gate_plan.specs.Blocks.{Stand, IsNumberOf}
+use Rattle.gate_plan.specs.Lowering.{Source, block_of, gates_of, is_operation_built, handled_by, is_keys}
 use Rattle.gate_plan.proofs.NumberLemmas.{IsSilent}
+use Rattle.gate_plan.proofs.ValueLemmas.{HasBits, one_made, entered_made, constant_made, xored_made, anded_made, flipped_made, sliced_made, joined_made, vector_made, told_made}
 
 -- an operation names its value and tells none, or is an output
 pub data Named (op : Operation) : Type 0 where
@@ -33,103 +38,196 @@ own_handled _ told own e = refl
 
 -- the gates are as many as the table of counts says
 pub block_count : (parties : ℕ) (op : Operation) (keys : Bool) (v : Source) (n : ℕ) →
-    is_operation_built op keys ≡ true →
+    is_operation_built op ≡ true →
     length (block_of op keys v n).gates ≡ gates_of parties op keys
 block_count parties A2Y keys v n built = cc
 block_count parties A2B keys v n built = cc
 block_count parties B2Y keys v n built = cc
-block_count parties Y2B keys v n built = cc
 block_count parties B2A keys v n built = cc
 block_count parties Y2A keys v n built = cc
 block_count parties _ false v n built = refl
-block_count parties _ true v n built = cc
+block_count parties _ true v n built = refl
 
 -- the gates of a value tell nothing
-pub block_silent : (op : Operation) (keys : Bool) (v : Source) (n : ℕ) → is_operation_built op keys ≡ true →
+pub block_silent : (op : Operation) (keys : Bool) (v : Source) (n : ℕ) → is_operation_built op ≡ true →
     states is_told_slot op ≡ false →
     AllByRecursion IsSilent (block_of op keys v n).gates
 block_silent A2Y keys v n built untold = cc
 block_silent A2B keys v n built untold = cc
 block_silent B2Y keys v n built untold = cc
-block_silent Y2B keys v n built untold = cc
 block_silent B2A keys v n built untold = cc
 block_silent Y2A keys v n built untold = cc
 block_silent Output keys v n built untold = cc
+block_silent InputBits true v n built untold = (refl, (refl, tt))
+block_silent ConstBits true v n built untold = (refl, (refl, tt))
+block_silent Xor true v n built untold = (refl, (refl, tt))
+block_silent And true v n built untold = (refl, (refl, (refl, tt)))
+block_silent Slice true v n built untold = (refl, (refl, tt))
+block_silent Join true v n built untold = (refl, (refl, tt))
 block_silent _ false v n built untold = (refl, tt)
-block_silent _ true v n built untold = cc
+block_silent _ true v n built untold = (refl, tt)
+
+-- ---- which values are shared as keys
+
+-- whether the operands are, where the value that is handled is or not
+abbrev pub takes_keys : Operation → Bool → Bool
+takes_keys Y2B keys = true
+takes_keys InputBits keys = keys
+takes_keys ConstBits keys = keys
+takes_keys Xor keys = keys
+takes_keys And keys = keys
+takes_keys Not keys = keys
+takes_keys Slice keys = keys
+takes_keys Join keys = keys
+takes_keys Output keys = keys
+takes_keys _ keys = false
+
+-- and whether the value that is given is. What an output tells is not
+abbrev pub gives_keys : Operation → Bool → Bool
+gives_keys InputBits keys = keys
+gives_keys ConstBits keys = keys
+gives_keys Xor keys = keys
+gives_keys And keys = keys
+gives_keys Not keys = keys
+gives_keys Slice keys = keys
+gives_keys Join keys = keys
+gives_keys _ keys = false
+
+abbrev pub is_by_keys : Sharing → Bool
+is_by_keys Y = true
+is_by_keys _ = false
+
+pub keys_taken : (op : Operation) (given : Sharing) (width : ℕ) → is_in (domain_of op) given ≡ true →
+    states is_name_slot op ≡ true → is_operation_built op ≡ true →
+    takes_keys op (is_keys (Some (wire_type (gives op given) width))) ≡ is_by_keys given
+keys_taken Output given width domain names built = cc
+keys_taken A2Y given width domain names built = cc
+keys_taken A2B given width domain names built = cc
+keys_taken B2Y given width domain names built = cc
+keys_taken B2A given width domain names built = cc
+keys_taken Y2A given width domain names built = cc
+keys_taken Y2B A width domain names built = cc
+keys_taken Y2B B width domain names built = cc
+keys_taken _ A width domain names built = refl
+keys_taken InputBits B width domain names built = refl
+keys_taken ConstBits B width domain names built = refl
+keys_taken Xor B width domain names built = refl
+keys_taken And B width domain names built = refl
+keys_taken Not B width domain names built = refl
+keys_taken Slice B width domain names built = refl
+keys_taken Join B width domain names built = refl
+keys_taken InputBits Y width domain names built = refl
+keys_taken ConstBits Y width domain names built = refl
+keys_taken Xor Y width domain names built = refl
+keys_taken And Y width domain names built = refl
+keys_taken Not Y width domain names built = refl
+keys_taken Slice Y width domain names built = refl
+keys_taken Join Y width domain names built = refl
+keys_taken Y2B Y width domain names built = refl
+keys_taken _ _ width domain names built = cc
+
+pub keys_given : (op : Operation) (given : Sharing) (width : ℕ) → is_in (domain_of op) given ≡ true →
+    states is_name_slot op ≡ true → is_operation_built op ≡ true →
+    gives_keys op (is_keys (Some (wire_type (gives op given) width)))
+    ≡ is_keys (Some (wire_type (gives op given) width))
+keys_given Output given width domain names built = cc
+keys_given A2Y given width domain names built = cc
+keys_given A2B given width domain names built = cc
+keys_given B2Y given width domain names built = cc
+keys_given B2A given width domain names built = cc
+keys_given Y2A given width domain names built = cc
+keys_given Y2B given width domain names built = refl
+keys_given InputBits given width domain names built = refl
+keys_given ConstBits given width domain names built = refl
+keys_given Xor given width domain names built = refl
+keys_given And given width domain names built = refl
+keys_given Not given width domain names built = refl
+keys_given Slice given width domain names built = refl
+keys_given Join given width domain names built = refl
+keys_given _ A width domain names built = refl
+keys_given _ _ width domain names built = cc
 
 -- ---- the number of the value
 
-module _ (gates : List Gate) (outside : Outside) (numbers : List ℕ)
-    (are : AreNumbers gates outside numbers) where
+module _ (plan : Gates) (valid : IsPlan plan) (outside : Outside) where
+  abbrev numbers : List ℕ
+  numbers = plain_numbers plan outside
+
   -- what an operation is evaluated on is what its gates are made of
-  pub record Alike (op : Operation) (v : Source) (e : eval.Seen) : Type 0 where
+  pub record Alike (op : Operation) (keys : Bool) (v : Source) (e : eval.Seen) : Type 0 where
+    pub high : ℕ
     pub input : e.input ≡ slice_index outside.inputs v.k
-    pub x : 1 ≤ arity_of op → e.x ≡ slice_index numbers v.x.gate
-    pub y : 2 ≤ arity_of op → e.y ≡ slice_index numbers v.y.gate
+    pub x : 1 ≤ arity_of op → HasBits plan valid outside (takes_keys op keys) v.x e.low e.x
+    pub y : 2 ≤ arity_of op → HasBits plan valid outside (takes_keys op keys) v.y high e.y
     pub width : states is_name_slot op ≡ true → e.width ≡ v.width
-    pub low : 1 ≤ arity_of op → e.low ≡ width_at gates v.x.gate
     pub place : e.place ≡ v.place
     pub constant : e.constant ≡ v.constant
 
   -- one gate whose number, before it is cut, is another
-  made : (n w : ℕ) (kind : Kind) (number : ℕ) → Stand gates n (one n w kind).gates →
-      number ≡ number_of kind (seen_of gates outside numbers kind) →
-      slice_get numbers n ≡ Some (number % 2 ^ w)
-  made n w kind number stand is =
-      are n (gate_of kind w) (first_of gates n (gate_of kind w) [] stand) ∙ ap (λ (k : ℕ). Some (k % 2 ^ w))
-      (sym is)
+  abbrev IsMade : Operation → Bool → Source → ℕ → eval.Seen → Type 0
+  IsMade op keys v n e =
+      IsNumberOf (gives_keys op keys) numbers (block_of op keys v n).wire (number_made op e % 2 ^ v.width)
+
+  recut : (keys : Bool) (a : Wire) (w x y : ℕ) → x ≡ y → IsNumberOf keys numbers a (x % 2 ^ w) →
+      IsNumberOf keys numbers a (y % 2 ^ w)
+  recut keys a w x y same is = let P : ℕ → Type 0 = λ k. IsNumberOf keys numbers a (k % 2 ^ w) in subst P same is
 
   pub law : (op : Operation) (keys : Bool) (v : Source) (n : ℕ) (e : eval.Seen) →
-      is_operation_built op keys ≡ true → Alike op v e →
-      Stand gates n (block_of op keys v n).gates →
-      slice_get numbers (block_of op keys v n).wire.gate ≡ Some (number_made op e % 2 ^ v.width)
+      is_operation_built op ≡ true → Alike op keys v e →
+      Stand plan.gates n (block_of op keys v n).gates → IsMade op keys v n e
   law InputWord keys v n e built a stand =
-      made n v.width (InA v.party v.k) (number_made InputWord e) stand a.input
-  law InputBits false v n e built a stand =
-      made n v.width (InB v.party v.k 0) (number_made InputBits e) stand
-      (a.input ∙ sym (div-one (slice_index outside.inputs v.k)))
+      one_made plan valid outside n v.width (InA v.party v.k) (number_made InputWord e) stand a.input
+  law InputBits keys v n e built a stand =
+      recut keys (block_of InputBits keys v n).wire v.width (slice_index outside.inputs v.k / 2 ^ 0) e.input
+      (div-one (slice_index outside.inputs v.k) ∙ sym a.input)
+      (entered_made plan valid outside keys n v.width v.party v.k 0 stand)
   law ConstWord keys v n e built a stand =
-      made n v.width (ConstA v.constant) (number_made ConstWord e) stand a.constant
-  law ConstBits false v n e built a stand =
-      made n v.width (ConstB v.constant) (number_made ConstBits e) stand a.constant
+      one_made plan valid outside n v.width (ConstA v.constant) (number_made ConstWord e) stand a.constant
+  law ConstBits keys v n e built a stand =
+      recut keys (block_of ConstBits keys v n).wire v.width v.constant e.constant (sym a.constant)
+      (constant_made plan valid outside keys n v.width v.constant stand)
   law Add keys v n e built a stand =
-      made n v.width (AddA v.x.gate v.y.gate) (number_made Add e) stand
-      (ap₂ (λ p q. p + q) (a.x (omega arith)) (a.y (omega arith)))
+      one_made plan valid outside n v.width (AddA v.x.gate v.y.gate) (number_made Add e) stand
+      (ap₂ (λ p q. p + q) (sym (a.x (omega arith)).0) (sym (a.y (omega arith)).0))
   law Sub keys v n e built a stand =
-      made n v.width (SubA v.x.gate v.y.gate) (number_made Sub e) stand
-      (ap₂ (λ p q. word_difference p q) (a.x (omega arith)) (a.y (omega arith)))
+      one_made plan valid outside n v.width (SubA v.x.gate v.y.gate) (number_made Sub e) stand
+      (ap₂ (λ p q. word_difference p q) (sym (a.x (omega arith)).0) (sym (a.y (omega arith)).0))
   law Mul keys v n e built a stand =
-      made n v.width (MulA v.x.gate v.y.gate) (number_made Mul e) stand
-      (ap₂ (λ p q. p * q) (a.x (omega arith)) (a.y (omega arith)))
+      one_made plan valid outside n v.width (MulA v.x.gate v.y.gate) (number_made Mul e) stand
+      (ap₂ (λ p q. p * q) (sym (a.x (omega arith)).0) (sym (a.y (omega arith)).0))
   law AddConst keys v n e built a stand =
-      made n v.width (AddConstA v.x.gate v.constant) (number_made AddConst e) stand
-      (ap₂ (λ p q. p + q) (a.x (omega arith)) a.constant)
+      one_made plan valid outside n v.width (AddConstA v.x.gate v.constant) (number_made AddConst e) stand
+      (ap₂ (λ p q. p + q) (sym (a.x (omega arith)).0) a.constant)
   law MulConst keys v n e built a stand =
-      made n v.width (MulConstA v.x.gate v.constant) (number_made MulConst e) stand
-      (ap₂ (λ p q. p * q) (a.x (omega arith)) a.constant)
-  law Xor false v n e built a stand =
-      made n v.width (XorB v.x.gate v.y.gate) (number_made Xor e) stand
-      (ap₂ (λ p q. bit_xor p q) (a.x (omega arith)) (a.y (omega arith)))
-  law And false v n e built a stand =
-      made n v.width (AndB v.x.gate v.y.gate) (number_made And e) stand
-      (ap₂ (λ p q. bit_and p q) (a.x (omega arith)) (a.y (omega arith)))
-  law Not false v n e built a stand =
-      made n v.width (XorConstB v.x.gate (2 ^ v.width - 1)) (number_made Not e) stand
-      (ap₂ (λ p w. bit_xor p (2 ^ w - 1)) (a.x (omega arith)) (a.width refl))
-  law Slice false v n e built a stand =
-      made n v.width (SliceB v.x.gate v.place) (number_made Slice e) stand
-      (ap₂ (λ p q. p / 2 ^ q) (a.x (omega arith)) a.place)
-  law Join false v n e built a stand =
-      made n v.width (JoinB v.x.gate v.y.gate) (number_made Join e) stand
-      (ap₂ (λ p q. p + q) (a.x (omega arith))
-      (ap₂ (λ l q. 2 ^ l * q) (a.low (omega arith)) (a.y (omega arith))))
+      one_made plan valid outside n v.width (MulConstA v.x.gate v.constant) (number_made MulConst e) stand
+      (ap₂ (λ p q. p * q) (sym (a.x (omega arith)).0) a.constant)
+  law Xor keys v n e built a stand =
+      xored_made plan valid outside keys n v.width v.x v.y e.low a.high e.x e.y stand (a.x (omega arith))
+      (a.y (omega arith))
+  law And keys v n e built a stand =
+      anded_made plan valid outside keys n v.width v.x v.y e.low a.high e.x e.y stand (a.x (omega arith))
+      (a.y (omega arith))
+  law Not keys v n e built a stand =
+      recut keys (block_of Not keys v n).wire v.width (bit_xor e.x (2 ^ v.width - 1)) (number_made Not e)
+      (ap (λ w. bit_xor e.x (2 ^ w - 1)) (sym (a.width refl)))
+      (flipped_made plan valid outside keys n v.width v.x (2 ^ v.width - 1) e.low e.x stand (a.x (omega arith)))
+  law Slice keys v n e built a stand =
+      recut keys (block_of Slice keys v n).wire v.width (e.x / 2 ^ v.place) (number_made Slice e)
+      (ap (λ at. e.x / 2 ^ at) (sym a.place))
+      (sliced_made plan valid outside keys n v.width v.x v.place e.low e.x stand (a.x (omega arith)))
+  law Join keys v n e built a stand =
+      joined_made plan valid outside keys n v.width v.x v.y e.low a.high e.x e.y stand (a.x (omega arith))
+      (a.y (omega arith))
+  law Y2B keys v n e built a stand =
+      vector_made plan valid outside n v.width v.x e.low e.x stand (a.x (omega arith))
+  law Output true v n e built a stand =
+      told_made plan valid outside true n v.width v.x v.to e.low e.x stand (a.x (omega arith))
   law Output false v n e built a stand =
-      made n v.width (cond v.is_word (OutA v.x.gate v.to) (OutB v.x.gate v.to)) (number_made Output e) stand
+      one_made plan valid outside n v.width (cond v.is_word (OutA v.x.gate v.to) (OutB v.x.gate v.to)) (number_made Output e) stand
       (either v.is_word)
     where
       either : (b : Bool) → e.x ≡ number_of (cond b (OutA v.x.gate v.to) (OutB v.x.gate v.to))
-          (seen_of gates outside numbers (cond b (OutA v.x.gate v.to) (OutB v.x.gate v.to)))
-      either true = a.x (omega arith)
-      either false = a.x (omega arith)
-  law _ _ v n e built a stand = cc
+          (seen_of plan.gates outside numbers (cond b (OutA v.x.gate v.to) (OutB v.x.gate v.to)))
+      either true = sym (a.x (omega arith)).0
+      either false = sym (a.x (omega arith)).0
+  law _ keys v n e built a stand = cc

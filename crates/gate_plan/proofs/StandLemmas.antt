@@ -1,14 +1,18 @@
 -- The gates of a finished plan, part by part.
-use Rattle.std.proofs.Common.{ℕ, zero, suc, ◌≡◌, ◌<◌, ◌≤◌, ◌+◌, ◌-◌, ◌^◌, List, [], ◌∷◌, ◌++◌, length, map, Some, inl, inr, refl, sym, ◌∙◌, ap, subst, arith}
+use Rattle.std.proofs.Common.{ℕ, zero, suc, ◌≡◌, ◌<◌, ◌≤◌, ◌+◌, ◌-◌, ◌*◌, ◌^◌, Bool, true, false, List, [], ◌∷◌, ◌++◌, length, map, Some, inl, inr, refl, sym, ◌∙◌, ap, subst, arith}
 use Rattle.std.specs.Prelude.{slice_get, IfSome, option_map}
 use Rattle.std.specs.Option.{unwrap_or}
 use Rattle.std.specs.List.{AllByRecursion}
 use Rattle.std.proofs.lemmas.Bool.{cases_lt}
 use Rattle.mot_base.specs.Limits.{most_width}
 use Rattle.mot_base.proofs.Lists.{same_some, inside_of, before_at, behind_at}
-use Rattle.plan_gates.specs.Gate.{Kind, Gate, Given, Word, gate_of, gives, uses, operands, constant_of, party_of, width_at}
-use Rattle.plan_gates.specs.Plan.{Gates, IsOperand, FitWidths, IsGate}
-use Rattle.gate_plan.specs.Blocks.{Stand}
+use Rattle.std.proofs.lemmas.List.{length-append}
+use Rattle.share_types.specs.declared.sharing.Sharing.{Sharing}
+use Rattle.share_types.specs.declared.sharing.Sharing.TheVariants.{A, B, Y}
+use Rattle.plan_gates.specs.Gate.{Kind, Gate, Given, Word, Vector, Mask, Online, gate_of, gives, uses, operands, constant_of, party_of, width_at}
+use Rattle.plan_gates.specs.Plan.{Gates, IsOperand, FitWidths, IsWire, ArePaired, IsGate}
+use Rattle.gate_plan.specs.declared.wire.Wire.{Wire}
+use Rattle.gate_plan.specs.Blocks.{Stand, in_row}
 
 -- ---- lists that grow at their ends
 
@@ -84,34 +88,65 @@ pub own_value : (gates : List Gate) (n : ℕ) (gate : Gate) (given : Given) → 
 own_value gates n gate given there is =
     record { below = omega arith; gate = gate; there = there; given_is = is; width_is = refl }
 
--- a gate may stand where its width, constant, operands and party are in order
+-- both gates of a wire that is shared as keys stand before a place, and have a width
+pub record IsKeyed (gates : List Gate) (bound : ℕ) (a : Wire) (width : ℕ) : Type 0 where
+  pub mask : IsValue gates bound Mask a.mask width
+  pub online : IsValue gates bound Online a.gate width
+  pub pair : IsWire gates a.mask a.gate
+
+-- the gates of bits that are shared as keys or by XOR
+abbrev pub AreBits : Bool → List Gate → ℕ → Wire → ℕ → Type 0
+AreBits false gates bound a width = IsValue gates bound Vector a.gate width
+AreBits true gates bound a width = IsKeyed gates bound a width
+
+-- the gates of a value that is shared so
+abbrev pub IsShared : Sharing → List Gate → ℕ → Wire → ℕ → Type 0
+IsShared A gates bound a width = IsValue gates bound Word a.gate width
+IsShared B gates bound a width = AreBits false gates bound a width
+IsShared Y gates bound a width = AreBits true gates bound a width
+
+pub later_bits : (keys : Bool) (gates : List Gate) (bound more : ℕ) (a : Wire) (width : ℕ) → bound ≤ more →
+    AreBits keys gates bound a width → AreBits keys gates more a width
+later_bits false gates bound more a width h is = later more h is
+later_bits true gates bound more a width h is =
+    record { mask = later more h is.mask; online = later more h is.online; pair = is.pair }
+
+pub later_shared : (given : Sharing) (gates : List Gate) (bound more : ℕ) (a : Wire) (width : ℕ) → bound ≤ more →
+    IsShared given gates bound a width → IsShared given gates more a width
+later_shared A gates bound more a width h is = later more h is
+later_shared B gates bound more a width h is = later_bits false gates bound more a width h is
+later_shared Y gates bound more a width h is = later_bits true gates bound more a width h is
+
+-- a gate may stand where its width, constant, operands, pairs and party are in order
 pub bits_gate : (plan : Gates) (g : ℕ) (kind : Kind) (w : ℕ) →
     (gives kind ≡ Word → w ≡ most_width) → 1 ≤ w → w ≤ most_width →
     constant_of kind < 2 ^ w → AllByRecursion (IsOperand plan.gates g) (uses kind) →
-    FitWidths kind w (map (width_at plan.gates) (operands kind)) →
+    FitWidths kind w (map (width_at plan.gates) (operands kind)) → ArePaired plan.gates kind →
     IfSome (party_of kind) (λ party. party < plan.parties) → IsGate plan g (gate_of kind w)
-bits_gate plan g kind w word some most small before fit party = record {
+bits_gate plan g kind w word some most small before fit paired party = record {
   some_width = some;
   in_width = most;
   word = word;
   small = small;
   uses = before;
   fit = fit;
+  paired = paired;
   party = party;
 }
 
 -- and so may one of 64 bits
 pub word_gate : (plan : Gates) (g : ℕ) (kind : Kind) (w : ℕ) → w ≡ most_width → constant_of kind < 2 ^ w →
     AllByRecursion (IsOperand plan.gates g) (uses kind) →
-    FitWidths kind w (map (width_at plan.gates) (operands kind)) →
+    FitWidths kind w (map (width_at plan.gates) (operands kind)) → ArePaired plan.gates kind →
     IfSome (party_of kind) (λ party. party < plan.parties) → IsGate plan g (gate_of kind w)
-word_gate plan g kind w whole small before fit party = record {
+word_gate plan g kind w whole small before fit paired party = record {
   some_width = omega (arith, whole);
   in_width = omega (arith, whole);
   word = λ e. whole;
   small = small;
   uses = before;
   fit = fit;
+  paired = paired;
   party = party;
 }
 
@@ -147,3 +182,42 @@ all_both plan n xs m ys place first second = record { each = at }
           sym (behind_at xs ys k) ∙ (ap (slice_get (xs ++ ys)) here ∙ e) in
           subst (λ j. IsGate plan j gate) there (second.each k gate is))
     ]
+
+-- ---- gates in a row, as many of each
+
+-- so many of a size are so many times the size
+pub length_row : (size count : ℕ) (f : ℕ → List Gate) → ((i : ℕ) → length (f i) ≡ size) →
+    length (in_row count f) ≡ size * count
+length_row size zero f each = omega arith
+length_row size (suc count) f each =
+    let before = length_row size count f each in
+    let both = length-append (in_row count f) (f count) in
+    let own = each count in
+    omega arith
+
+-- those at a place stand behind the earlier ones
+pub stand_row : (gates : List Gate) (n size count : ℕ) (f : ℕ → List Gate) → ((i : ℕ) → length (f i) ≡ size) →
+    Stand gates n (in_row count f) → (i : ℕ) → i < count → Stand gates (n + size * i) (f i)
+stand_row gates n size zero f each stand i h = absurd (omega arith)
+stand_row gates n size (suc count) f each stand i h = elim (cases_lt i count) as (λ _. Stand gates (n + size * i) (f i)) [
+  | inl small ↦
+      stand_row gates n size count f each
+      (λ j gate e. stand j gate (before_at (in_row count f) (f count) j (inside_of (in_row count f) j gate e) ∙ e)) i small
+  | inr large ↦
+      (let here : count ≡ i = omega arith in
+      let P : ℕ → Type 0 = λ k. Stand gates (n + size * k) (f k) in
+      let all = length_row size count f each in
+      subst P here (λ j gate e.
+      let place : n + (length (in_row count f) + j) ≡ n + size * count + j = omega arith in
+      subst (λ k. slice_get gates k ≡ Some gate) place
+      (stand (length (in_row count f) + j) gate (behind_at (in_row count f) (f count) j ∙ e))))
+]
+
+-- and may stand, where each of them may
+pub all_row : (plan : Gates) (n size count : ℕ) (f : ℕ → List Gate) → ((i : ℕ) → length (f i) ≡ size) →
+    ((i : ℕ) → i < count → AllGates plan (n + size * i) (f i)) → AllGates plan n (in_row count f)
+all_row plan n size zero f each fits = all_none plan n
+all_row plan n size (suc count) f each fits =
+    let size_is = length_row size count f each in
+    all_both plan n (in_row count f) (n + size * count) (f count) (omega arith)
+    (all_row plan n size count f each (λ i h. fits i (omega arith))) (fits count (omega arith))

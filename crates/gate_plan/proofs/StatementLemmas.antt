@@ -1,5 +1,5 @@
 -- The gates that the code makes of a statement are the statement's.
-use Rattle.std.proofs.Common.{ℕ, suc, ◌≡◌, ◌≤◌, ◌+◌, true, false, List, [], ◌∷◌, ◌++◌, length, take, Option, Some, refl, sym, ◌∙◌, ap, ap₂, subst, arith}
+use Rattle.std.proofs.Common.{ℕ, suc, ◌≡◌, ◌≤◌, ◌+◌, true, List, [], ◌∷◌, ◌++◌, length, take, Option, Some, refl, sym, ◌∙◌, ap, ap₂, subst, arith}
 use Rattle.std.specs.Prelude.{slice_get, option_map, Result, Ok, Err, IfOk}
 use Rattle.mot_base.specs.Limits.{most_gates}
 use Rattle.mot_base.proofs.Lists.{same_some, inside_of}
@@ -17,10 +17,10 @@ use Rattle.mixed_language.specs.Table.{inputs_of}
 use Rattle.plan_gates.specs.Plan.{Gates, with_gates}
 use Rattle.gate_plan.specs.declared.wire.Wire.{Wire}
 use Rattle.gate_plan.specs.Blocks.{Block, Lowered}
-use Rattle.gate_plan.specs.Lowering.{block_of, operand_wire, source_from, lowered_to, draft_to, wire_handled, all_built, all_gates}
+use Rattle.gate_plan.specs.Lowering.{block_of, operand_wire, source_from, lowered_to, draft_to, wire_handled, is_keys, all_built, all_gates}
 use Rattle.gate_plan.proofs.OperationLemmas.{Named, Names, Tells, named}
-use Rattle.gate_plan.proofs.BuiltLemmas.{built_at, handles_no_keys, handled_own}
-use Rattle.gate_plan.proofs.PlanLemmas.{start, source, block, next, next_start, count, gates_rise}
+use Rattle.gate_plan.proofs.BuiltLemmas.{handled_own}
+use Rattle.gate_plan.proofs.PlanLemmas.{start, block, next, next_start, count, gates_rise}
 use Rattle.gate_plan.proofs.ValidLemmas.{told}
 
 -- what follows from what an `Ok` has
@@ -79,25 +79,23 @@ module _ (c : Circuit) (circuit : IsCircuit c) (built : all_built c ≡ true) (n
       y ≡ operand_wire (lowered_to c n).wires (slice_get shape.operands 1) →
       k ≡ length (inputs_of (take n all)) →
       Some w ≡ wire_handled all s → draft ≡ draft_to c n →
-      block_of shape.operation false (source_from shape x y k (Some w)) (length draft.gates) ≡ block c n s
+      block_of shape.operation (is_keys (Some w)) (source_from shape x y k (Some w)) (length draft.gates) ≡ block c n s
   code_block shape x y k w draft same first second inputs wired before =
       let wires = (lowered_to c n).wires in
       let a = operand_wire wires (slice_get shape.operands 0) in
       let b = operand_wire wires (slice_get shape.operands 1) in
-      ap₂ (λ (p q : Wire). block_of shape.operation false (source_from shape p q k (Some w))
+      ap₂ (λ (p q : Wire). block_of shape.operation (is_keys (Some w)) (source_from shape p q k (Some w))
       (length draft.gates)) first second
-      ∙ (ap₂ (λ (m : ℕ) (o : Option WireType). block_of shape.operation false (source_from shape a b m o)
+      ∙ (ap₂ (λ (m : ℕ) (o : Option WireType). block_of shape.operation (is_keys o) (source_from shape a b m o)
       (length draft.gates)) inputs wired
-      ∙ (ap (λ (p : Gates). block_of shape.operation false
+      ∙ (ap (λ (p : Gates). block_of shape.operation (is_keys (wire_handled all s))
       (source_from shape a b (length (inputs_of (take n all))) (wire_handled all s)) (length p.gates))
       before
-      ∙ (ap (λ (sh : Shape). block_of sh.operation false
+      ∙ ap (λ (sh : Shape). block_of sh.operation (is_keys (wire_handled all s))
       (source_from sh (operand_wire wires (slice_get sh.operands 0))
       (operand_wire wires (slice_get sh.operands 1)) (length (inputs_of (take n all)))
       (wire_handled all s))
-      (start c n)) (sym same)
-      ∙ ap (λ keys. block_of s.shape.operation keys (source c n s) (start c n))
-      (sym (handles_no_keys all s (built_at c n s built there))))))
+      (start c n)) (sym same)))
 
   -- and room for it
   pub room : (draft : Gates) (made : Block) → all_gates c ≤ most_gates → draft ≡ draft_to c n →

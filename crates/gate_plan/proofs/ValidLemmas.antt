@@ -19,11 +19,11 @@ use Rattle.mixed_language.specs.Table.{told_value, receiver_of}
 use Rattle.mixed_language.proofs.WidthLemmas.{circuit_wide}
 use Rattle.plan_gates.specs.Plan.{Gates, IsGate, IsPlan}
 use Rattle.gate_plan.specs.declared.wire.Wire.{Wire}
-use Rattle.gate_plan.specs.Blocks.{Lowered, single}
-use Rattle.gate_plan.specs.Lowering.{block_of, operand_wire, lowered_to, lowered, wire_handled, width_handled, handled_by, is_keys, is_word, is_operation_built, all_built, all_gates}
-use Rattle.gate_plan.proofs.StandLemmas.{IsValue, later, AllGates, all_none, all_both}
+use Rattle.gate_plan.specs.Blocks.{Lowered, single, Stand}
+use Rattle.gate_plan.specs.Lowering.{block_of, operand_wire, lowered_to, lowered, wire_handled, width_handled, handled_by, is_keys, is_word, all_built, all_gates}
+use Rattle.gate_plan.proofs.StandLemmas.{IsShared, later_shared, AllGates, all_none, all_both}
 use Rattle.gate_plan.proofs.OperationLemmas.{Named, Names, Tells, named}
-use Rattle.gate_plan.proofs.FitLemmas.{given_of, shared_same, Sound, fit, output_fits, one_operand}
+use Rattle.gate_plan.proofs.FitLemmas.{shared_same, Sound, fit, output_fits, one_operand}
 use Rattle.gate_plan.proofs.BuiltLemmas.{built_at, handled_own, statement_of}
 use Rattle.gate_plan.proofs.PlanLemmas.{start, source, block, next, stands, wire_in, next_start, count}
 
@@ -49,10 +49,10 @@ module _ (c : Circuit) (circuit : IsCircuit c) (built : all_built c ≡ true) wh
   abbrev plan : Gates
   plan = lowered c
 
-  -- each value of the statements before a place is given by the gate of its wire
+  -- each value of the statements before a place is given by the gates of its wire
   pub record AreValues (n : ℕ) : Type 0 where
     pub at : (x : ℕ) (t : Statement) (w : WireType) → x < n → slice_get all x ≡ Some t → t.wire ≡ Some w →
-        IsValue plan.gates (start c n) (given_of (sharing_of w)) (block c x t).wire.gate (width_of w)
+        IsShared (sharing_of w) plan.gates (start c n) (block c x t).wire (width_of w)
 
   module _ (n : ℕ) (s : Statement) (there : slice_get all n ≡ Some s) where
     pub row : IsStatement c.parties (take n all) s
@@ -87,16 +87,15 @@ module _ (c : Circuit) (circuit : IsCircuit c) (built : all_built c ≡ true) wh
               ∙ ap (λ a. unwrap_or a (single 0)) (wire_in c o.at n found.0 place.1 place.0);
         }
 
-    operand_value : AreValues n → (i : ℕ) (o : Operand) → slice_get row.operands i ≡ Some o →
-        IsValue plan.gates (start c n) (given_of row.sharing)
-        (operand_wire (lowered_to c n).wires (slice_get s.shape.operands i)).gate (width_of o.wire)
+    pub operand_value : AreValues n → (i : ℕ) (o : Operand) → slice_get row.operands i ≡ Some o →
+        IsShared row.sharing plan.gates (start c n)
+        (operand_wire (lowered_to c n).wires (slice_get s.shape.operands i)) (width_of o.wire)
     operand_value values i o e =
         let t = earlier i o e in
         let is = values.at o.at t.statement o.wire t.below t.there_at t.own in
-        subst (λ (a : Wire). IsValue plan.gates (start c n) (given_of row.sharing) a.gate (width_of o.wire))
+        subst (λ (a : Wire). IsShared row.sharing plan.gates (start c n) a (width_of o.wire))
         (sym t.wired)
-        (subst (λ (given : Sharing). IsValue plan.gates (start c n) (given_of given)
-        (block c o.at t.statement).wire.gate (width_of o.wire))
+        (subst (λ (given : Sharing). IsShared given plan.gates (start c n) (block c o.at t.statement).wire (width_of o.wire))
         (shared_same row.sharing o.wire (row.uses.shared i o e)) is)
 
     sound : AreValues n → Sound plan (start c n) s.shape.operation row.sharing
@@ -142,8 +141,8 @@ module _ (c : Circuit) (circuit : IsCircuit c) (built : all_built c ≡ true) wh
     -- the gates of the statement may stand, and give its value, if it has one
     record IsNext : Type 0 where
       gates : AllGates plan (start c n) (block c n s).gates
-      value : (w : WireType) → s.wire ≡ Some w → IsValue plan.gates (start c (suc n))
-          (given_of (sharing_of w)) (block c n s).wire.gate (width_of w)
+      value : (w : WireType) → s.wire ≡ Some w → IsShared (sharing_of w) plan.gates (start c (suc n))
+          (block c n s).wire (width_of w)
 
     is_next : AreValues n → Named s.shape.operation → IsNext
     is_next values (Names e untold) =
@@ -160,19 +159,19 @@ module _ (c : Circuit) (circuit : IsCircuit c) (built : all_built c ≡ true) wh
         (built_at c n s built there) (ap is_keys handled) (sound values) (omega (arith, some, same))
         (omega (arith, most, same)) same
         (stands c n s there) in
-        let a = (block c n s).wire.gate in
+        let a = (block c n s).wire in
         let at_end =
-        subst (λ k. IsValue plan.gates k (given_of (gives op row.sharing)) a (source c n s).width)
+        subst (λ k. IsShared (gives op row.sharing) plan.gates k a (source c n s).width)
         (sym (next_start c n s there)) f.value in
         let as_wide =
-        subst (IsValue plan.gates (start c (suc n)) (given_of (gives op row.sharing)) a) same at_end in
+        subst (IsShared (gives op row.sharing) plan.gates (start c (suc n)) a) same at_end in
         let as_given =
-        subst (λ (g : Sharing). IsValue plan.gates (start c (suc n)) (given_of g) a (width_of w))
+        subst (λ (g : Sharing). IsShared g plan.gates (start c (suc n)) a (width_of w))
         (sym (own_sharing (gives op row.sharing) row.width)) as_wide in
         record {
           gates = f.gates;
           value = λ u f. subst
-              (λ (v : WireType). IsValue plan.gates (start c (suc n)) (given_of (sharing_of v)) a
+              (λ (v : WireType). IsShared (sharing_of v) plan.gates (start c (suc n)) a
               (width_of v)) (same_some w u (sym own ∙ f)) as_given;
         }
     is_next values (Tells e) =
@@ -184,16 +183,16 @@ module _ (c : Circuit) (circuit : IsCircuit c) (built : all_built c ≡ true) wh
         let shared = shared_same row.sharing w (row.uses.shared 0 t.operand t.first) in
         let keys = is_keys (wire_handled all s) in
         let known =
-        subst (λ (g : Sharing). IsValue plan.gates (start c n) (given_of g) (source c n s).x.gate
-        (width_of w)) (sym shared) value in
+        subst (λ (g : Sharing). IsShared g plan.gates (start c n) (source c n s).x (width_of w))
+        (sym shared) value in
         record {
           gates = subst (λ op. AllGates plan (start c n) (block_of op keys (source c n s) (start c n)).gates)
               (sym e)
-              (output_fits plan (start c n) keys (source c n s) w
-              (subst (λ op. is_operation_built op keys ≡ true) e (built_at c n s built there))
-              (ap is_keys t.handled) known wide
+              (output_fits plan (start c n) keys (source c n s) w (ap is_keys t.handled) known wide
               (told_some c.parties s.shape.party row.numbers.party) (ap is_word t.handled)
-              (ap width_handled t.handled));
+              (ap width_handled t.handled)
+              (subst (λ op. Stand plan.gates (start c n) (block_of op keys (source c n s) (start c n)).gates) e
+              (stands c n s there)));
           value = λ u own. let contrary = sym own ∙ t.unnamed in cc;
         }
 
@@ -206,22 +205,21 @@ module _ (c : Circuit) (circuit : IsCircuit c) (built : all_built c ≡ true) wh
   values_next n s there before step = record { at = at }
     where
       at : (x : ℕ) (t : Statement) (w : WireType) → x < suc n → slice_get all x ≡ Some t → t.wire ≡ Some w →
-          IsValue plan.gates (start c (suc n)) (given_of (sharing_of w)) (block c x t).wire.gate (width_of w)
+          IsShared (sharing_of w) plan.gates (start c (suc n)) (block c x t).wire (width_of w)
       at x t w below here own =
           elim (cases_lt x n) as
-          (λ _. IsValue plan.gates (start c (suc n)) (given_of (sharing_of w)) (block c x t).wire.gate
-          (width_of w)) [
+          (λ _. IsShared (sharing_of w) plan.gates (start c (suc n)) (block c x t).wire (width_of w)) [
             | inl small ↦
                 (let more = next_start c n s there in
-                later (start c (suc n)) (omega (arith, more)) (before.at x t w small here own))
+                later_shared (sharing_of w) plan.gates (start c n) (start c (suc n)) (block c x t).wire (width_of w)
+                (omega (arith, more)) (before.at x t w small here own))
             | inr large ↦
                 (let place : n ≡ x = omega (arith, below, large) in
                 let same : s ≡ t = same_some s t (sym there ∙ (ap (slice_get all) place ∙ here)) in
                 let is = step.value w (ap (λ (u : Statement). u.wire) same ∙ own) in
-                subst (λ k. IsValue plan.gates (start c (suc n)) (given_of (sharing_of w))
-                (block c k t).wire.gate (width_of w)) place
-                (subst (λ (u : Statement). IsValue plan.gates (start c (suc n)) (given_of (sharing_of w))
-                (block c n u).wire.gate (width_of w)) same is))
+                subst (λ k. IsShared (sharing_of w) plan.gates (start c (suc n)) (block c k t).wire (width_of w)) place
+                (subst (λ (u : Statement). IsShared (sharing_of w) plan.gates (start c (suc n))
+                (block c n u).wire (width_of w)) same is))
           ]
 
   pub valid_to : (n : ℕ) → n ≤ length all → IsValidTo n

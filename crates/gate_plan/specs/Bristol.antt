@@ -1,5 +1,5 @@
 -- The gates of a circuit in Bristol Fashion. Each of its wires has one bit.
-use Rattle.std.specs.Prelude.{ℕ, zero, suc, ◌≡◌, ◌+◌, ◌*◌, ◌%◌, Bool, true, false, List, [], ◌∷◌, ◌++◌, length, map, set, sum, slice_get, slice_index, Option, Some, None, if◌then◌else◌}
+use Rattle.std.specs.Prelude.{ℕ, zero, suc, ◌≡◌, ◌+◌, ◌-◌, ◌*◌, ◌%◌, Bool, true, false, List, [], ◌∷◌, ◌++◌, length, map, set, sum, slice_get, slice_index, Option, Some, None, if◌then◌else◌}
 use Rattle.share_types.specs.declared.sharing.Sharing.{Sharing}
 use Rattle.share_types.specs.declared.sharing.Sharing.TheVariants.{Y}
 use Rattle.share_types.specs.Sums.{each}
@@ -8,14 +8,14 @@ use Rattle.share_types.specs.declared.receiver.Receiver.TheVariants.{All}
 use Rattle.bristol_reader.specs.declared.kind.BristolKind.{BristolKind}
 use Rattle.bristol_reader.specs.declared.kind.BristolKind.TheVariants.{Xor, And, Inv, Eq, Eqw, Mand}
 use Rattle.bristol_reader.specs.Circuit as bristol
-use Rattle.bristol_reader.specs.Circuit.{Circuit, output_wires}
+use Rattle.bristol_reader.specs.Circuit.{Circuit}
 use Rattle.bristol_reader.specs.Table.{HaveInputWidths}
 use Rattle.bristol_reader.specs.Eval.{AreWireBits, output_bits}
-use Rattle.plan_gates.specs.Gate.{Kind, Gate, gate_of, InB, ConstB, XorB, XorConstB, AndB, OutB}
+use Rattle.plan_gates.specs.Gate.{Gate}
 use Rattle.plan_gates.specs.Plan.{Gates, with_gates}
 use Rattle.plan_gates.specs.Plain.{Outside, GateTold, told_by, plain_numbers}
 use Rattle.gate_plan.specs.declared.wire.Wire.{Wire}
-use Rattle.gate_plan.specs.Blocks.{Lowered, single, wire_among}
+use Rattle.gate_plan.specs.Blocks.{Lowered, single, wire_among, entered, constant, xored, anded, flipped, told, in_row}
 
 -- ---- how many gates there are
 
@@ -57,33 +57,51 @@ all_bristol_gates keys c =
     + bristol_gates_before keys c.gates (length c.gates)
     + gates_of_end keys * sum c.outputs
 
--- ---- the gates of a circuit whose wires are shared by XOR
+-- ---- the gates of a circuit whose wires are shared as keys or by XOR
 
-abbrev pub bit_gate : Kind → Gate
-bit_gate kind = gate_of kind 1
+-- the wire of an input wire with a number
+abbrev pub entry_wire : Bool → ℕ → Wire
+entry_wire false w = single w
+entry_wire true w = record { mask = 2 * w; gate = 2 * w + 1 }
 
--- one gate for each wire of input values of these widths, of which the first has a number: value k belongs
--- to party k mod N
-abbrev pub input_gates : ℕ → ℕ → List ℕ → List Gate
-input_gates parties k [] = []
-input_gates parties k (width ∷ widths) =
-    each width (λ at. bit_gate (InB (k % parties) k at)) ++ input_gates parties (k + 1) widths
+-- the gates of so many bits of an input value of a party, of which the first has the number n
+abbrev pub value_gates : Bool → ℕ → ℕ → ℕ → ℕ → List Gate
+value_gates keys n party k width = in_row width (λ at. (entered keys (n + gates_of_end keys * at) 1 party k at).gates)
 
--- the gates of a gate of a kind that has so many outputs: x i is the wire of its input i, and word is its
--- first input as it stands
-abbrev pub kind_gates : BristolKind → (ℕ → Wire) → ℕ → ℕ → List Gate
-kind_gates Xor x word outs = bit_gate (XorB (x 0).gate (x 1).gate) ∷ []
-kind_gates And x word outs = bit_gate (AndB (x 0).gate (x 1).gate) ∷ []
-kind_gates Inv x word outs = bit_gate (XorConstB (x 0).gate 1) ∷ []
-kind_gates Eq x word outs = bit_gate (ConstB word) ∷ []
-kind_gates Eqw x word outs = []
-kind_gates Mand x word outs = each outs (λ i. bit_gate (AndB (x i).gate (x (outs + i)).gate))
+-- the gates of each wire of input values of these widths, of which the first has the number n, and the
+-- first value the number k: it belongs to party k mod N
+abbrev pub input_gates : Bool → ℕ → ℕ → ℕ → List ℕ → List Gate
+input_gates keys parties n k [] = []
+input_gates keys parties n k (width ∷ widths) =
+    value_gates keys n (k % parties) k width
+    ++ input_gates keys parties (n + gates_of_end keys * width) (k + 1) widths
 
--- the wire of output i, where the first of these gates has a number: that of the input for an EQW, and else
--- that of gate i
-abbrev pub output_wire : BristolKind → Wire → ℕ → ℕ → Wire
-output_wire Eqw x n i = x
-output_wire _ x n i = single (n + i)
+-- the gates of an AND
+abbrev pub gates_of_and : Bool → ℕ
+gates_of_and keys = if keys then 3 else 1
+
+-- so many ANDs, each of an input and the one so many places behind it, of which the first has the number n
+abbrev pub ands_gates : Bool → (ℕ → Wire) → ℕ → ℕ → ℕ → List Gate
+ands_gates keys x outs n count = in_row count (λ i. (anded keys (n + gates_of_and keys * i) 1 (x i) (x (outs + i))).gates)
+
+-- the gates of a gate of a kind that has so many outputs, of which the first has the number n: x i is the
+-- wire of its input i, and word is its first input as it stands
+abbrev pub kind_gates : Bool → BristolKind → (ℕ → Wire) → ℕ → ℕ → ℕ → List Gate
+kind_gates keys Xor x word outs n = (xored keys n 1 (x 0) (x 1)).gates
+kind_gates keys And x word outs n = (anded keys n 1 (x 0) (x 1)).gates
+kind_gates keys Inv x word outs n = (flipped keys n 1 (x 0) 1).gates
+kind_gates keys Eq x word outs n = (constant keys n 1 word).gates
+kind_gates keys Eqw x word outs n = []
+kind_gates keys Mand x word outs n = ands_gates keys x outs n outs
+
+-- the wire of output i of a gate, where x is that of its first input and its first gate has the number n
+abbrev pub output_wire : Bool → BristolKind → Wire → ℕ → ℕ → Wire
+output_wire keys Xor x n i = (xored keys n 1 x x).wire
+output_wire keys And x n i = (anded keys n 1 x x).wire
+output_wire keys Inv x n i = (flipped keys n 1 x 1).wire
+output_wire keys Eq x n i = (constant keys n 1 0).wire
+output_wire keys Eqw x n i = x
+output_wire keys Mand x n i = (anded keys (n + gates_of_and keys * i) 1 x x).wire
 
 -- the wires of all places, where those at some places are now made, by a number that rises from one
 abbrev pub rewired : List Wire → List ℕ → (ℕ → Wire) → ℕ → List Wire
@@ -91,42 +109,46 @@ rewired wires [] made i = wires
 rewired wires (out ∷ outs) made i = rewired (set wires out (made i)) outs made (i + 1)
 
 -- the gates of the gate of a circuit, if there is one, and the wires behind it
-abbrev pub gates_made : Lowered → Option bristol.Gate → List Gate
-gates_made before None = []
-gates_made before (Some g) =
-    kind_gates g.kind (λ i. wire_among before.wires (slice_index g.ins i)) (slice_index g.ins 0)
-    (length g.outs)
+abbrev pub gates_made : Bool → Lowered → Option bristol.Gate → List Gate
+gates_made keys before None = []
+gates_made keys before (Some g) =
+    kind_gates keys g.kind (λ i. wire_among before.wires (slice_index g.ins i)) (slice_index g.ins 0)
+    (length g.outs) (length before.gates)
 
-abbrev pub wires_made : Lowered → Option bristol.Gate → List Wire
-wires_made before None = before.wires
-wires_made before (Some g) =
+abbrev pub wires_made : Bool → Lowered → Option bristol.Gate → List Wire
+wires_made keys before None = before.wires
+wires_made keys before (Some g) =
     rewired before.wires g.outs
-    (output_wire g.kind (wire_among before.wires (slice_index g.ins 0)) (length before.gates)) 0
+    (output_wire keys g.kind (wire_among before.wires (slice_index g.ins 0)) (length before.gates)) 0
 
 -- what the input wires of a circuit and its gates before a place are lowered to, with a wire for each wire
--- of the circuit. The gate of an input wire has its number
-abbrev pub wired_before : ℕ → Circuit → ℕ → Lowered
-wired_before parties c zero = record { gates = input_gates parties 0 c.inputs; wires = each c.wires single }
-wired_before parties c (suc n) =
-    let before : Lowered = wired_before parties c n in
+-- of the circuit
+abbrev pub wired_before : Bool → ℕ → Circuit → ℕ → Lowered
+wired_before keys parties c zero =
+    record { gates = input_gates keys parties 0 0 c.inputs; wires = each c.wires (entry_wire keys) }
+wired_before keys parties c (suc n) =
+    let before : Lowered = wired_before keys parties c n in
     record {
-      gates = before.gates ++ gates_made before (slice_get c.gates n);
-      wires = wires_made before (slice_get c.gates n);
+      gates = before.gates ++ gates_made keys before (slice_get c.gates n);
+      wires = wires_made keys before (slice_get c.gates n);
     }
 
 -- the plan of the input wires and of the gates before a place
-abbrev pub wired_draft : ℕ → Circuit → ℕ → Gates
-wired_draft parties c n = record { parties = parties; gates = (wired_before parties c n).gates }
+abbrev pub wired_draft : Bool → ℕ → Circuit → ℕ → Gates
+wired_draft keys parties c n = record { parties = parties; gates = (wired_before keys parties c n).gates }
 
-abbrev pub output_gates : List Wire → List ℕ → List Gate
-output_gates wires outs = map (λ w. bit_gate (OutB (wire_among wires w).gate All)) outs
+-- the gates of so many output wires from one on, of which the first has the number n
+abbrev pub output_gates : Bool → List Wire → ℕ → ℕ → ℕ → List Gate
+output_gates keys wires n from count =
+    in_row count (λ j. (told keys (n + gates_of_end keys * j) 1 (wire_among wires (from + j)) All).gates)
 
--- the plan of a circuit among so many parties: its input wires, its gates and its output wires, each in
--- order
-abbrev pub bristol_lowered : ℕ → Circuit → Gates
-bristol_lowered parties c =
-    with_gates (wired_draft parties c (length c.gates))
-    (output_gates (wired_before parties c (length c.gates)).wires (output_wires c))
+-- the plan of a circuit among so many parties: its input wires, its gates and its output wires, which are
+-- the last ones, each in order
+abbrev pub bristol_lowered : Bool → ℕ → Circuit → Gates
+bristol_lowered keys parties c =
+    let wired : Lowered = wired_before keys parties c (length c.gates) in
+    with_gates (wired_draft keys parties c (length c.gates))
+    (output_gates keys wired.wires (length wired.gates) (c.wires - sum c.outputs) (sum c.outputs))
 
 -- ---- that lowering keeps the plain evaluation
 

@@ -1,23 +1,24 @@
 -- That lowering keeps the plain evaluation.
 use Rattle.std.specs.Prelude.{ℕ, ◌≡◌, List, map, slice_get, Some}
 use Rattle.circuit_tables.specs.Table.{Told}
-use Rattle.mixed_language.specs.Circuit.{Circuit}
+use Rattle.mixed_language.specs.Circuit.{Circuit, wire_at}
 use Rattle.mixed_language.specs.Eval.{IsEvaluated, told_of}
 use Rattle.plan_gates.specs.Plan.{Gates}
 use Rattle.plan_gates.specs.Plain.{Outside, GateTold, told_by, plain_numbers}
 use Rattle.gate_plan.specs.declared.wire.Wire.{Wire}
-use Rattle.gate_plan.specs.Lowering.{wires_of}
+use Rattle.gate_plan.specs.Blocks.{IsNumberOf}
+use Rattle.gate_plan.specs.Lowering.{is_keys, wires_of}
 
 -- an output of a circuit without its name
 abbrev pub unnamed : Told → GateTold
 unnamed told = record { to = told.to; bits = told.bits }
 
--- whatever comes from outside: the number of each statement's value is that of its wire's gate, and the
--- output gates tell what the circuit tells, in the order of its outputs
+-- whatever comes from outside: the number of each statement's value is that of its wire, and the output
+-- gates tell what the circuit tells, in the order of its outputs
 pub record KeepsValues (c : Circuit) (plan : Gates) (outside : Outside) (values : List ℕ) : Type 0 where
   pub values_kept : (at : ℕ) (value : ℕ) → slice_get values at ≡ Some value →
       (wire : Wire) × (slice_get (wires_of c) at ≡ Some wire)
-      × (slice_get (plain_numbers plan outside) wire.gate ≡ Some value)
+      × IsNumberOf (is_keys (wire_at c.statements at)) (plain_numbers plan outside) wire value
   pub told_kept : told_by plan.gates (plain_numbers plan outside) ≡ map unnamed (told_of c values)
 
 abbrev pub KeepsEvaluation : Circuit → Gates → Type 0

@@ -1,5 +1,5 @@
 -- The gates of a circuit's statements.
-use Rattle.std.specs.Prelude.{ℕ, zero, suc, ◌+◌, ◌-◌, ◌*◌, ◌^◌, Bool, true, false, not, ◌&&◌, List, [], length, take, slice_get, Option, Some, None, option_map, if◌then◌else◌}
+use Rattle.std.specs.Prelude.{ℕ, zero, suc, ◌+◌, ◌-◌, ◌*◌, ◌^◌, Bool, true, false, List, [], length, take, slice_get, Option, Some, None, option_map, if◌then◌else◌}
 use Rattle.std.specs.List.{list_all}
 use Rattle.std.specs.Option.{unwrap_or}
 use Rattle.share_types.specs.declared.sharing.WireType.{WireType}
@@ -10,10 +10,10 @@ use Rattle.mixed_language.specs.Circuit.{Circuit, Statement, Shape, wire_at}
 use Rattle.share_types.specs.Wires.{width_of}
 use Rattle.mixed_language.specs.Table.{inputs_of, told_value, receiver_of}
 use Rattle.share_types.specs.declared.receiver.Receiver.{Receiver}
-use Rattle.plan_gates.specs.Gate.{InA, ConstA, AddA, SubA, AddConstA, MulConstA, MulA, OutA, InB, ConstB, XorB, XorConstB, SliceB, JoinB, AndB, OutB}
+use Rattle.plan_gates.specs.Gate.{InA, ConstA, AddA, SubA, AddConstA, MulConstA, MulA, OutA, OutB, YToB}
 use Rattle.plan_gates.specs.Plan.{Gates}
 use Rattle.gate_plan.specs.declared.wire.Wire.{Wire}
-use Rattle.gate_plan.specs.Blocks.{Block, Lowered, single, wire_among, one, no_block, with_block}
+use Rattle.gate_plan.specs.Blocks.{Block, Lowered, single, wire_among, one, entered, constant, xored, anded, flipped, sliced, joined, told, no_block, with_block}
 
 -- ---- how many gates the statements of a circuit have
 
@@ -41,13 +41,15 @@ abbrev pub gates_of : ℕ → Operation → Bool → ℕ
 gates_of parties A2Y keys = 2 * parties + adder_gates * (parties - 1)
 gates_of parties A2B keys = 2 * parties + adder_gates * (parties - 1) + 1
 gates_of parties B2Y keys = 2 * parties + 2 * (parties - 1)
-gates_of parties Y2B keys = 1
-gates_of parties B2A keys = 1
 gates_of parties Y2A keys = 2
-gates_of parties Not keys = 1
+gates_of parties InputBits true = 2
+gates_of parties ConstBits true = 2
+gates_of parties Xor true = 2
 gates_of parties And true = 3
-gates_of parties _ true = 2
-gates_of parties _ false = 1
+gates_of parties Slice true = 2
+gates_of parties Join true = 2
+gates_of parties Output true = 2
+gates_of parties _ keys = 1
 
 abbrev pub gates_in : ℕ → List Statement → Option Statement → ℕ
 gates_in parties all None = 0
@@ -64,25 +66,20 @@ all_gates c = gates_before c.parties c.statements (length c.statements)
 
 -- ---- which statements are built
 
-abbrev pub is_conversion : Operation → Bool
-is_conversion A2Y = true
-is_conversion A2B = true
-is_conversion B2Y = true
-is_conversion Y2B = true
-is_conversion B2A = true
-is_conversion Y2A = true
-is_conversion _ = false
+-- all but those that make keys of shares, or words or vectors by way of them
+abbrev pub is_operation_built : Operation → Bool
+is_operation_built A2Y = false
+is_operation_built A2B = false
+is_operation_built B2Y = false
+is_operation_built B2A = false
+is_operation_built Y2A = false
+is_operation_built _ = true
 
--- whether an operation is built, where its value or what it tells is shared as keys or not
-abbrev pub is_operation_built : Operation → Bool → Bool
-is_operation_built operation keys = not (is_conversion operation) && not keys
-
--- neither takes nor gives a value that is shared as keys, and converts none
-abbrev pub is_built : List Statement → Statement → Bool
-is_built all s = is_operation_built s.shape.operation (is_keys (wire_handled all s))
+abbrev pub is_built : Statement → Bool
+is_built s = is_operation_built s.shape.operation
 
 abbrev pub all_built : Circuit → Bool
-all_built c = list_all (is_built c.statements) c.statements
+all_built c = list_all is_built c.statements
 
 -- ---- the gates of a statement
 
@@ -104,20 +101,22 @@ pub record Source : Type 0 where
 -- shared as keys or not, and the wire of that value. What is not built has none
 abbrev pub block_of : Operation → Bool → Source → ℕ → Block
 block_of InputWord keys v n = one n v.width (InA v.party v.k)
-block_of InputBits false v n = one n v.width (InB v.party v.k 0)
+block_of InputBits keys v n = entered keys n v.width v.party v.k 0
 block_of ConstWord keys v n = one n v.width (ConstA v.constant)
-block_of ConstBits false v n = one n v.width (ConstB v.constant)
+block_of ConstBits keys v n = constant keys n v.width v.constant
 block_of Add keys v n = one n v.width (AddA v.x.gate v.y.gate)
 block_of Sub keys v n = one n v.width (SubA v.x.gate v.y.gate)
 block_of Mul keys v n = one n v.width (MulA v.x.gate v.y.gate)
 block_of AddConst keys v n = one n v.width (AddConstA v.x.gate v.constant)
 block_of MulConst keys v n = one n v.width (MulConstA v.x.gate v.constant)
-block_of Xor false v n = one n v.width (XorB v.x.gate v.y.gate)
-block_of And false v n = one n v.width (AndB v.x.gate v.y.gate)
-block_of Not false v n = one n v.width (XorConstB v.x.gate (2 ^ v.width - 1))
-block_of Slice false v n = one n v.width (SliceB v.x.gate v.place)
-block_of Join false v n = one n v.width (JoinB v.x.gate v.y.gate)
+block_of Xor keys v n = xored keys n v.width v.x v.y
+block_of And keys v n = anded keys n v.width v.x v.y
+block_of Not keys v n = flipped keys n v.width v.x (2 ^ v.width - 1)
+block_of Slice keys v n = sliced keys n v.width v.x v.place
+block_of Join keys v n = joined keys n v.width v.x v.y
+block_of Y2B keys v n = one n v.width (YToB v.x.mask v.x.gate)
 block_of Output false v n = one n v.width (if v.is_word then OutA v.x.gate v.to else OutB v.x.gate v.to)
+block_of Output true v n = told true n v.width v.x v.to
 block_of _ keys v n = no_block
 
 -- the width of a value that is shared so, if there is one

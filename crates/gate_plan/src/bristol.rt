@@ -2,12 +2,12 @@
 
 ghost use Rattle.std.specs.Prelude.{◌≡◌, ◌≢◌, ℕ, ◌<◌, ◌≤◌, ◌+◌, ◌*◌, ◌^◌, ◌↔◌, length, slice_get, IfOk, IsErrOf};
 ghost use Rattle.mot_base.specs.Limits.{least_parties, most_parties, most_gates};
-ghost use Rattle.share_types.specs.declared.sharing.Sharing.TheVariants.{A, B, Y};
+ghost use Rattle.share_types.specs.declared.sharing.Sharing.TheVariants.{A};
 ghost use Rattle.bristol_reader.specs.Built.{IsCircuit};
 ghost use Rattle.gate_plan.specs.Bristol.{are_keys, gates_of_kind, gates_of_end, gates_of_gate, bristol_gates_before, all_bristol_gates, bristol_lowered, KeepsBristol};
 
 use crate::error::PlanError;
-use crate::expand::lower_bits;
+use crate::expand::lower_wires;
 use bristol_reader::{Bristol, BristolKind};
 use mot_base::MAX_GATES;
 use plan_gates::Plan;
@@ -15,8 +15,7 @@ use share_types::Sharing;
 use std::alloc::Global;
 
 /// The gates of a circuit in Bristol Fashion. Input value `k` belongs to party `k` mod the number of
-/// parties, and each output wire is told to all. `NotBuilt` comes exactly where the wires are to be shared
-/// as keys, and `TooManyGates` exactly where they are to be shared by XOR and there are too many.
+/// parties, and each output wire is told to all. `TooManyGates` comes exactly where there are too many.
 pub fn lower_bristol(
     alloc: Global,
     circuit: &Bristol,
@@ -26,23 +25,20 @@ pub fn lower_bristol(
     requires some { least_parties ≤ parties }
     requires most { parties ≤ most_parties }
     requires sharing { sharing ≢ A }
-    ensures plan { IfOk result (λ plan. plan ≡ bristol_lowered parties circuit.now) }
+    ensures plan { IfOk result (λ plan. plan ≡ bristol_lowered (are_keys sharing) parties circuit.now) }
     ensures count { IfOk result (λ plan.
         length plan.gates ≡ all_bristol_gates (are_keys sharing) circuit.now) }
     ensures keeps { IfOk result (λ plan. KeepsBristol circuit.now plan) }
-    ensures not_built { IsErrOf result PlanError.NotBuilt ↔ (sharing ≡ Y) }
+    ensures built { IsErrOf result PlanError.NotBuilt → ⊥ }
     ensures too_many { (gates : ℕ) → IsErrOf result (PlanError.TooManyGates gates) ↔
-        ((sharing ≡ B) × (most_gates < all_bristol_gates (are_keys sharing) circuit.now)
+        ((most_gates < all_bristol_gates (are_keys sharing) circuit.now)
         × (gates ≡ all_bristol_gates (are_keys sharing) circuit.now)) }
 {
-    if sharing == Sharing::Y {
-        return Err(PlanError::NotBuilt);
-    }
     let gates = lowered_bristol_gates(circuit, sharing);
     if gates > u64::from(MAX_GATES) {
         return Err(PlanError::TooManyGates { gates });
     }
-    let plan = lower_bits(alloc, circuit, parties)?;
+    let plan = lower_wires(alloc, circuit, parties, are_keys(sharing))?;
     Ok(plan)
 }
 

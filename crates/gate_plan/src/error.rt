@@ -6,8 +6,8 @@ use thiserror::Error;
 /// Why a circuit is not lowered.
 #[derive(Clone, Copy, Debug, PartialEq, Eq, Error)]
 pub enum PlanError {
-    /// Some statement takes or gives a value that is shared as keys, or converts a value; or the wires of a
-    /// circuit in Bristol Fashion are to be shared as keys.
+    /// Some statement makes keys of shares, or words or vectors by way of them: `a2y`, `a2b`, `b2y`, `b2a` or
+    /// `y2a`.
     #[error("a part of the circuit cannot be run yet")]
     NotBuilt,
     /// The circuit has more than 4,194,304 gates: so many.

@@ -1,6 +1,7 @@
 //! The lowering of circuits to plans, which are those of `plan_gates`.
 #![tactic(auto)]
 
+mod block;
 mod bristol;
 mod error;
 mod expand;

@@ -1,25 +1,26 @@
-ghost use Rattle.std.specs.Prelude.{◌≡◌, ℕ, ◌<◌, ◌≤◌, ◌+◌, ◌^◌, ◌↔◌, true, false, [], ◌∷◌, ◌++◌, length, take, slice_get, IfOk, IfSome, OnOk, IsErrOf};
+ghost use Rattle.std.specs.Prelude.{◌≡◌, ℕ, ◌<◌, ◌≤◌, ◌+◌, ◌^◌, ◌↔◌, true, false, [], ◌∷◌, ◌++◌, length, take, slice_get, option_map, Some, IfOk, IfSome, OnOk, IsErrOf};
 ghost use Rattle.mot_base.specs.Limits.{least_parties, most_parties, most_width, most_gates};
 ghost use Rattle.mixed_language.specs.Circuit.{shape_of};
 ghost use Rattle.mixed_language.specs.Valid.{IsCircuit};
 ghost use Rattle.mixed_language.specs.Table.{inputs_of};
-ghost use Rattle.gate_plan.specs.Lowering.{wire_handled, is_keys, gates_of, gates_in, all_gates, is_built, all_built, lowered_to, draft_to, lowered};
+ghost use Rattle.gate_plan.specs.Lowering.{gates_of, gates_in, all_gates, is_operation_built, is_built, all_built, lowered_to, draft_to, lowered};
 ghost use Rattle.gate_plan.specs.Keeps.{KeepsEvaluation};
 
 use crate::error::PlanError;
-use crate::statement::{inputs_taken, operand_wire, operands_of, push_block, wire_handled};
+use crate::statement::{
+    inputs_taken, is_keys, operand_wire, operands_of, push_block, wire_handled,
+};
 use crate::wire::Wire;
 use mixed_language::{Form, Mixed};
 use mot_base::{MAX_GATES, NoMemory};
 use plan_gates::{Draft, Plan};
-use share_types::WireType;
 use std::alloc::Global;
 
 /// The gates of an adder of two words that are shared as keys.
 const ADDER_GATES: u64 = 1073;
 
-/// The gates of a circuit. `NotBuilt` comes exactly where some statement takes or gives a value that is
-/// shared as keys, or converts one, and `TooManyGates` exactly where the circuit has too many.
+/// The gates of a circuit. `NotBuilt` comes exactly where some statement is `a2y`, `a2b`, `b2y`, `b2a` or
+/// `y2a`, and `TooManyGates` exactly where there is none of them, and the circuit has too many.
 pub fn lower_mixed(alloc: Global, circuit: &Mixed) -> Result<Plan, PlanError>
     ensures plan { IfOk result (λ plan. plan ≡ lowered circuit.now) }
     ensures count { IfOk result (λ plan. length plan.gates ≡ all_gates circuit.now) }
@@ -78,19 +79,22 @@ fn gates_of(parties: u8, form: Form, keys: bool) -> u64
         Form::A2Y { .. } => 2 * parties + ADDER_GATES * (parties - 1),
         Form::A2B { .. } => 2 * parties + ADDER_GATES * (parties - 1) + 1,
         Form::B2Y { .. } => 2 * parties + 2 * (parties - 1),
-        Form::Y2B { .. } | Form::B2A { .. } | Form::NotB { .. } | Form::NotY { .. } => 1,
         Form::Y2A { .. } => 2,
         Form::AndB { .. } | Form::AndY { .. } if keys => 3,
-        _ if keys => 2,
+        Form::InputB { .. }
+        | Form::InputY { .. }
+        | Form::ConstB { .. }
+        | Form::ConstY { .. }
+        | Form::XorB { .. }
+        | Form::XorY { .. }
+        | Form::SliceB { .. }
+        | Form::SliceY { .. }
+        | Form::JoinB { .. }
+        | Form::JoinY { .. }
+        | Form::Output { .. }
+            if keys => { 2 }
         _ => 1,
     }
-}
-
-/// Whether a value is shared as keys.
-fn is_keys(wire: Option<WireType>) -> bool
-    ensures { result ≡ is_keys wire }
-{
-    matches!(wire, Some(WireType::Y(_)))
 }
 
 /// Whether all statements of a circuit are built.
@@ -105,21 +109,22 @@ fn are_built(circuit: &Mixed) -> bool
     true
 }
 
-/// Whether a statement neither takes nor gives a value that is shared as keys, and converts none.
+/// Whether a statement is built.
 fn is_built(circuit: &Mixed, at: u32) -> bool
     requires { at < length circuit.now.statements }
-    ensures { IfSome (slice_get circuit.now.statements at) (λ s.
-        result ≡ is_built circuit.now.statements s) }
+    ensures { option_map is_built (slice_get circuit.now.statements at) ≡ Some result }
 {
-    match circuit.form(at) {
-        Form::A2Y { .. }
-        | Form::A2B { .. }
-        | Form::B2Y { .. }
-        | Form::Y2B { .. }
-        | Form::B2A { .. }
-        | Form::Y2A { .. } => false,
-        _ => !is_keys(wire_handled(circuit, at)),
-    }
+    is_form_built(circuit.form(at))
+}
+
+/// Whether a statement of that form is built.
+fn is_form_built(form: Form) -> bool
+    ensures { result ≡ is_operation_built (shape_of form).operation }
+{
+    !matches!(
+        form,
+        Form::A2Y { .. } | Form::A2B { .. } | Form::B2Y { .. } | Form::B2A { .. } | Form::Y2A { .. }
+    )
 }
 
 /// The gates of a circuit whose statements are built, and which are not too many.

@@ -1,6 +1,6 @@
 //! The gates of a statement.
 
-ghost use Rattle.std.specs.Prelude.{◌≡◌, ◌<◌, ◌≤◌, ◌+◌, ◌-◌, ◌^◌, false, length, slice_get, slice_index, Some, IfOk, IfSome, OnOk, if◌then◌else◌};
+ghost use Rattle.std.specs.Prelude.{◌≡◌, ◌<◌, ◌≤◌, ◌+◌, ◌-◌, ◌^◌, true, None, length, slice_get, slice_index, Some, IfOk, IfSome, OnOk, if◌then◌else◌};
 ghost use Rattle.mot_base.specs.Limits.{most_width, most_gates};
 ghost use Rattle.mixed_language.specs.declared.language.Operation.TheVariants.{ConstBits};
 ghost use Rattle.mixed_language.specs.Circuit.{shape_of};
@@ -8,14 +8,18 @@ ghost use Rattle.share_types.specs.Wires.{width_of};
 ghost use Rattle.mixed_language.specs.Valid.{AreEarlier};
 ghost use Rattle.mixed_language.specs.Eval.{inputs_taken};
 ghost use Rattle.mixed_language.specs.Wide.{IsWide};
-ghost use Rattle.plan_gates.specs.Gate.{OutA, InB, OutB, kind_of, stated_width};
+ghost use Rattle.plan_gates.specs.Gate.{OutA, OutB, YToB, kind_of, stated_width};
 ghost use Rattle.plan_gates.specs.Plan.{with_gates};
-ghost use Rattle.gate_plan.specs.Lowering.{handled_by, wire_handled, is_word, is_conversion, block_of, operand_wire, source_from};
+ghost use Rattle.gate_plan.specs.Lowering.{handled_by, wire_handled, is_keys, is_word, is_operation_built, block_of, operand_wire, source_from};
 
+use crate::block::{
+    push_anded, push_constant, push_entered, push_flipped, push_joined, push_sliced, push_told,
+    push_xored,
+};
 use crate::wire::{Wire, push_one, wire_among};
 use circuit_tables::Receiver;
 use mixed_language::{Form, Mixed};
-use mot_base::{NoMemory, Party};
+use mot_base::NoMemory;
 use plan_gates::{Draft, GateKind};
 use share_types::{Bits, WireType};
 
@@ -100,6 +104,13 @@ pub fn operand_wire(wires: &[Wire], place: Option<u32>) -> Wire
     }
 }
 
+/// Whether a value is shared as keys.
+pub fn is_keys(wire: Option<WireType>) -> bool
+    ensures { result ≡ is_keys wire }
+{
+    matches!(wire, Some(WireType::Y(_)))
+}
+
 /// Adds the gates of a statement that is built, and gives the wire of its value: `k` is the number of its
 /// input, `wire` is how its value is shared, or the value that it tells, and `x` and `y` are the wires of
 /// its operands.
@@ -112,58 +123,73 @@ pub fn push_block(
     y: Wire,
 ) -> Result<Wire, NoMemory>
     requires wide { IsWide wire }
-    requires built { is_conversion (shape_of form).operation ≡ false }
+    requires built { is_operation_built (shape_of form).operation ≡ true }
     requires constant { (shape_of form).operation ≡ ConstBits → (shape_of form).width ≡ width_of wire }
     requires room { length draft.old.gates
-        + length (block_of (shape_of form).operation false (source_from (shape_of form) x y k (Some wire))
-        (length draft.old.gates)).gates ≤ most_gates }
+        + length (block_of (shape_of form).operation (is_keys (Some wire))
+        (source_from (shape_of form) x y k (Some wire)) (length draft.old.gates)).gates ≤ most_gates }
     ensures next { OnOk result (draft.new ≡ with_gates draft.old
-        (block_of (shape_of form).operation false (source_from (shape_of form) x y k (Some wire))
-        (length draft.old.gates)).gates) }
+        (block_of (shape_of form).operation (is_keys (Some wire))
+        (source_from (shape_of form) x y k (Some wire)) (length draft.old.gates)).gates) }
     ensures given { IfOk result (λ given. given
-        ≡ (block_of (shape_of form).operation false (source_from (shape_of form) x y k (Some wire))
-        (length draft.old.gates)).wire) }
+        ≡ (block_of (shape_of form).operation (is_keys (Some wire))
+        (source_from (shape_of form) x y k (Some wire)) (length draft.old.gates)).wire) }
 {
     let width = wire.width();
-    let (x, y) = (x.gate, y.gate);
+    let keys = is_keys(Some(wire));
     match form {
-        Form::InputA { party } => push_one(draft, GateKind::InA { party, k }, width),
         Form::InputB { party, .. } | Form::InputY { party, .. } => {
-            push_one(draft, input_bits(party, k, width), width)
+            push_entered(draft, keys, width, party, k, 0)
         }
+        Form::ConstB { c } | Form::ConstY { c } => push_constant(draft, keys, c),
+        Form::XorB { .. } | Form::XorY { .. } => push_xored(draft, keys, width, x, y),
+        Form::AndB { .. } | Form::AndY { .. } => push_anded(draft, keys, width, x, y),
+        Form::NotB { .. } | Form::NotY { .. } => push_flipped(draft, keys, x, Bits::ones(width)),
+        Form::SliceB { at, .. } | Form::SliceY { at, .. } => push_sliced(draft, keys, width, x, at),
+        Form::JoinB { .. } | Form::JoinY { .. } => push_joined(draft, keys, width, x, y),
+        Form::Y2B { .. } => push_one(draft, to_vector(x), width),
+        Form::Output { to, .. } if keys => push_told(draft, keys, width, x, to),
+        Form::Output { to, .. } => push_one(draft, output(x.gate, to, wire), width),
+        Form::InputA { party } => push_one(draft, GateKind::InA { party, k }, width),
         Form::ConstA { c } => push_one(draft, GateKind::ConstA { c }, width),
-        Form::ConstB { c } | Form::ConstY { c } => push_one(draft, GateKind::ConstB { c }, width),
-        Form::AddA { .. } => push_one(draft, GateKind::AddA { x, y }, width),
-        Form::SubA { .. } => push_one(draft, GateKind::SubA { x, y }, width),
-        Form::MulA { .. } => push_one(draft, GateKind::MulA { x, y }, width),
-        Form::AddConstA { c, .. } => push_one(draft, GateKind::AddConstA { x, c }, width),
-        Form::MulConstA { c, .. } => push_one(draft, GateKind::MulConstA { x, c }, width),
-        Form::XorB { .. } | Form::XorY { .. } => push_one(draft, GateKind::XorB { x, y }, width),
-        Form::AndB { .. } | Form::AndY { .. } => push_one(draft, GateKind::AndB { x, y }, width),
-        Form::NotB { .. } | Form::NotY { .. } => {
-            let c = Bits::ones(width);
-            push_one(draft, GateKind::XorConstB { x, c }, width)
-        }
-        Form::SliceB { at, .. } | Form::SliceY { at, .. } => {
-            push_one(draft, GateKind::SliceB { x, at, width }, width)
-        }
-        Form::JoinB { .. } | Form::JoinY { .. } => push_one(draft, GateKind::JoinB { x, y }, width),
-        Form::Output { to, .. } => push_one(draft, output(x, to, wire), width),
+        Form::AddA { .. } => push_one(
+            draft,
+            GateKind::AddA {
+                x: x.gate,
+                y: y.gate,
+            },
+            width,
+        ),
+        Form::SubA { .. } => push_one(
+            draft,
+            GateKind::SubA {
+                x: x.gate,
+                y: y.gate,
+            },
+            width,
+        ),
+        Form::MulA { .. } => push_one(
+            draft,
+            GateKind::MulA {
+                x: x.gate,
+                y: y.gate,
+            },
+            width,
+        ),
+        Form::AddConstA { c, .. } => push_one(draft, GateKind::AddConstA { x: x.gate, c }, width),
+        Form::MulConstA { c, .. } => push_one(draft, GateKind::MulConstA { x: x.gate, c }, width),
         _ => unreachable!(),
     }
 }
 
-/// The gate of an input of so many bits, which takes them all.
-fn input_bits(party: Party, k: u32, width: u8) -> GateKind
-    ensures kind { kind_of result ≡ InB party.0 k 0 }
-    ensures stated { stated_width result ≡ Some width }
+/// The gate that makes a vector of a wire that is shared as keys.
+fn to_vector(x: Wire) -> GateKind
+    ensures kind { kind_of result ≡ YToB x.mask x.gate }
+    ensures stated { stated_width result ≡ None }
 {
-    let at = 0;
-    GateKind::InB {
-        party,
-        k,
-        at,
-        width,
+    GateKind::YToB {
+        m: x.mask,
+        o: x.gate,
     }
 }
 

@@ -1,8 +1,10 @@
 -- Whether what is asked for holds, part by part.
-use Rattle.std.proofs.Common.{◌≡◌, ◌↔◌, ℕ, zero, suc, ◌≤◌, ◌+◌, Bool, true, false, not, List, [], ◌++◌, length, get_or, Option, Some, None, refl, sym, ◌∙◌, ap, arith}
+use Rattle.std.proofs.Common.{◌≡◌, ◌↔◌, ℕ, zero, suc, ◌<◌, ◌≤◌, ◌+◌, Bool, true, false, not, List, [], ◌++◌, length, get_or, Option, Some, None, refl, sym, ◌∙◌, ap, arith}
 use Rattle.std.specs.Prelude.{slice_get, option_map}
 use Rattle.std.specs.Option.{option_to_list}
+use Rattle.share_types.specs.declared.needs.Needs.{Needs}
 use Rattle.share_types.specs.declared.needs.Kind as stock
+use Rattle.share_types.specs.Needs.{count_of, sum_of_needs}
 use Rattle.share_types.specs.declared.needs.Kind.TheVariants.{Mult, Bit, Shared, Key}
 use Rattle.plan_gates.specs.Gate.{Kind, Gate}
 use Rattle.joint_run.specs.Honest.{Taken, taken_by}
@@ -30,6 +32,50 @@ of_all_kinds P m b s k Mult = m
 of_all_kinds P m b s k Bit = b
 of_all_kinds P m b s k Shared = s
 of_all_kinds P m b s k Key = k
+
+-- where there are records enough of all kinds but one, it hangs on that one
+pub all_behind : (bases before asked counts before' asked' counts' : Needs) (b : Bool) →
+    before' ≡ before → asked' ≡ asked → counts' ≡ counts →
+    (0 < asked'.mult → bases.mult + before'.mult + asked'.mult ≤ counts'.mult) →
+    (0 < asked'.bit → bases.bit + before'.bit + asked'.bit ≤ counts'.bit) →
+    (0 < asked'.shared → bases.shared + before'.shared + asked'.shared ≤ counts'.shared) →
+    (b ≡ true) ↔ (0 < asked'.key → bases.key + before'.key + asked'.key ≤ counts'.key) →
+    (b ≡ true) ↔ ((kind : stock.Kind) → 0 < count_of asked kind →
+    count_of (sum_of_needs (sum_of_needs bases before) asked) kind ≤ count_of counts kind)
+all_behind bases before asked counts before' asked' counts' b before_is asked_is counts_is mult bit shared decides = (
+  λ yes. of_all_kinds
+      (λ kind. 0 < count_of asked kind → count_of (sum_of_needs (sum_of_needs bases before) asked) kind ≤ count_of counts kind)
+      (λ some.
+      let asked_same = ap (λ (n : Needs). n.mult) asked_is in
+      let before_same = ap (λ (n : Needs). n.mult) before_is in
+      let counts_same = ap (λ (n : Needs). n.mult) counts_is in
+      let enough = mult (omega (arith, some, asked_same)) in
+      omega (arith, enough, asked_same, before_same, counts_same))
+      (λ some.
+      let asked_same = ap (λ (n : Needs). n.bit) asked_is in
+      let before_same = ap (λ (n : Needs). n.bit) before_is in
+      let counts_same = ap (λ (n : Needs). n.bit) counts_is in
+      let enough = bit (omega (arith, some, asked_same)) in
+      omega (arith, enough, asked_same, before_same, counts_same))
+      (λ some.
+      let asked_same = ap (λ (n : Needs). n.shared) asked_is in
+      let before_same = ap (λ (n : Needs). n.shared) before_is in
+      let counts_same = ap (λ (n : Needs). n.shared) counts_is in
+      let enough = shared (omega (arith, some, asked_same)) in
+      omega (arith, enough, asked_same, before_same, counts_same))
+      (let key = decides.0 yes in λ some.
+      let asked_same = ap (λ (n : Needs). n.key) asked_is in
+      let before_same = ap (λ (n : Needs). n.key) before_is in
+      let counts_same = ap (λ (n : Needs). n.key) counts_is in
+      let enough = key (omega (arith, some, asked_same)) in
+      omega (arith, enough, asked_same, before_same, counts_same)),
+  λ all. decides.1 (λ some.
+      let asked_same = ap (λ (n : Needs). n.key) asked_is in
+      let before_same = ap (λ (n : Needs). n.key) before_is in
+      let counts_same = ap (λ (n : Needs). n.key) counts_is in
+      let enough = all Key (omega (arith, some, asked_same)) in
+      omega (arith, enough, asked_same, before_same, counts_same)),
+)
 
 -- ---- inputs
 

@@ -11,7 +11,7 @@ use Rattle.std.proofs.lemmas.Bool.{cases_lt, lt-ltb, eqb-true, eqb-false, eq-eqb
 use Rattle.share_types.specs.Sums.{total, xor_total, sum_to, xor_to, each}
 use Rattle.share_types.proofs.Parties.{total-append, xor_total-append}
 use Rattle.plan_gates.specs.declared.message.Message.{Message}
-use Rattle.plan_gates.specs.Gate.{Kind, Gate, InA, ConstA, AddA, SubA, AddConstA, MulConstA, MulA, OutA, InB, ConstB, XorB, XorConstB, SliceB, JoinB, AndB, OutB, party_of}
+use Rattle.plan_gates.specs.Gate.{Kind, Gate, InA, ConstA, AddA, SubA, AddConstA, MulConstA, MulA, OutA, InB, ConstB, XorB, XorConstB, SliceB, JoinB, AndB, OutB, party_of, InOnline, Garble, is_of_keys}
 use Rattle.plan_gates.specs.declared.draft.Sizes.{Sizes}
 use Rattle.plan_gates.specs.Plan.{Gates, IsPlan, sizes_of}
 use Rattle.plan_gates.specs.Messages.{words, vectors, messages_of, messages_at, message, are_two, hears, rounds, heard_rounds}
@@ -136,6 +136,8 @@ sends (OutA x receiver) from to = includes receiver to
 sends (InB party k at) from to = from == party
 sends (AndB x y) from to = true
 sends (OutB x receiver) from to = includes receiver to
+sends (InOnline party k at m) from to = to == party
+sends (Garble u v m) from to = true
 sends _ from to = false
 
 if_sent : (b c : Bool) (m : Message) → is_some (if b then first_of ((if c then Some m else None) ∷ []) else None) ≡ (b && c)
@@ -144,7 +146,13 @@ if_sent true false m = refl
 if_sent false true m = refl
 if_sent false false m = refl
 
-always_sent : (b : Bool) (m : Message) → is_some (if b then first_of (Some m ∷ []) else None) ≡ (b && true)
+if_sent_first : (b c : Bool) (m : Message) → is_some (if b then (if c then Some m else None) else None) ≡ (b && c)
+if_sent_first true true m = refl
+if_sent_first true false m = refl
+if_sent_first false true m = refl
+if_sent_first false false m = refl
+
+always_sent : (b : Bool) (m : Message) → is_some (if b then Some m else None) ≡ (b && true)
 always_sent true m = refl
 always_sent false m = refl
 
@@ -160,6 +168,8 @@ kind_sends (OutA x receiver) sizes from to b = if_sent b (includes receiver to) 
 kind_sends (InB party k at) sizes from to b = if_sent b (from == party) (vectors 1 sizes.width)
 kind_sends (AndB x y) sizes from to b = always_sent b (vectors 2 sizes.width)
 kind_sends (OutB x receiver) sizes from to b = if_sent b (includes receiver to) (vectors 1 sizes.width)
+kind_sends (InOnline party k at m) sizes from to b = if_sent_first b (to == party) (vectors 1 sizes.width)
+kind_sends (Garble u v m) sizes from to b = always_sent b (vectors 2 sizes.width)
 kind_sends _ sizes from to b = never_sent b
 
 pub sends_is : (plan : Gates) (from to g : ℕ) (gate : Gate) → slice_get plan.gates g ≡ Some gate →
@@ -228,27 +238,28 @@ module _ (plan : Gates) (me g : ℕ) (gate : Gate) (valid : IsPlan plan) (here :
       apart q false f = ne_eqb q party (λ same. eqb-false q me f (same ∙ eqb-true party me e))
   input kind party of is h false e = someone kind party of h (eqb-false party me e) (is party ∙ eq-eqb party party refl)
 
-  pub hears_is : (kind : Kind) → gate.kind ≡ kind → hears plan me g 0 ≡ hears_at (Some kind) me
-  hears_is (InA party k) of =
+  pub hears_is : (kind : Kind) → gate.kind ≡ kind → is_of_keys kind ≡ false → hears plan me g 0 ≡ hears_at (Some kind) me
+  hears_is (InA party k) of unkeyed =
       let names : party < plan.parties = subst (λ k. IfSome (party_of k) (λ p. p < plan.parties)) of (valid.each g gate here).party in
       input (InA party k) party of (λ q. refl) names (party == me) refl
-  hears_is (MulA x y) of = told (MulA x y) true of (λ q. refl)
-  hears_is (OutA x receiver) of = told (OutA x receiver) (includes receiver me) of (λ q. refl)
-  hears_is (InB party k at) of =
+  hears_is (MulA x y) of unkeyed = told (MulA x y) true of (λ q. refl)
+  hears_is (OutA x receiver) of unkeyed = told (OutA x receiver) (includes receiver me) of (λ q. refl)
+  hears_is (InB party k at) of unkeyed =
       let names : party < plan.parties = subst (λ k. IfSome (party_of k) (λ p. p < plan.parties)) of (valid.each g gate here).party in
       input (InB party k at) party of (λ q. refl) names (party == me) refl
-  hears_is (AndB x y) of = told (AndB x y) true of (λ q. refl)
-  hears_is (OutB x receiver) of = told (OutB x receiver) (includes receiver me) of (λ q. refl)
-  hears_is (ConstA c) of = told (ConstA c) false of (λ q. refl)
-  hears_is (AddA x y) of = told (AddA x y) false of (λ q. refl)
-  hears_is (SubA x y) of = told (SubA x y) false of (λ q. refl)
-  hears_is (AddConstA x c) of = told (AddConstA x c) false of (λ q. refl)
-  hears_is (MulConstA x c) of = told (MulConstA x c) false of (λ q. refl)
-  hears_is (ConstB c) of = told (ConstB c) false of (λ q. refl)
-  hears_is (XorB x y) of = told (XorB x y) false of (λ q. refl)
-  hears_is (XorConstB x c) of = told (XorConstB x c) false of (λ q. refl)
-  hears_is (SliceB x at) of = told (SliceB x at) false of (λ q. refl)
-  hears_is (JoinB x y) of = told (JoinB x y) false of (λ q. refl)
+  hears_is (AndB x y) of unkeyed = told (AndB x y) true of (λ q. refl)
+  hears_is (OutB x receiver) of unkeyed = told (OutB x receiver) (includes receiver me) of (λ q. refl)
+  hears_is (ConstA c) of unkeyed = told (ConstA c) false of (λ q. refl)
+  hears_is (AddA x y) of unkeyed = told (AddA x y) false of (λ q. refl)
+  hears_is (SubA x y) of unkeyed = told (SubA x y) false of (λ q. refl)
+  hears_is (AddConstA x c) of unkeyed = told (AddConstA x c) false of (λ q. refl)
+  hears_is (MulConstA x c) of unkeyed = told (MulConstA x c) false of (λ q. refl)
+  hears_is (ConstB c) of unkeyed = told (ConstB c) false of (λ q. refl)
+  hears_is (XorB x y) of unkeyed = told (XorB x y) false of (λ q. refl)
+  hears_is (XorConstB x c) of unkeyed = told (XorConstB x c) false of (λ q. refl)
+  hears_is (SliceB x at) of unkeyed = told (SliceB x at) false of (λ q. refl)
+  hears_is (JoinB x y) of unkeyed = told (JoinB x y) false of (λ q. refl)
+  hears_is _ of unkeyed = cc
 
   -- ---- the rounds in which a party hears
 
@@ -259,11 +270,11 @@ module _ (plan : Gates) (me g : ℕ) (gate : Gate) (valid : IsPlan plan) (here :
   pub one_round : (kind : Kind) → gate.kind ≡ kind → length (messages_of kind (sizes_of plan gate) 0 0) ≡ 1 → rounds plan g ≡ 1
   one_round kind of one = rounds_are kind of ∙ one
 
-  in_one : (kind : Kind) → gate.kind ≡ kind → length (messages_of kind (sizes_of plan gate) 0 0) ≡ 1 →
+  in_one : (kind : Kind) → gate.kind ≡ kind → is_of_keys kind ≡ false → length (messages_of kind (sizes_of plan gate) 0 0) ≡ 1 →
       heard_rounds plan me g ≡ rounds_heard (Some kind) me
-  in_one kind of one =
+  in_one kind of unkeyed one =
       ap (λ n. filter (hears plan me g) (each n (λ r. r))) (one_round kind of one)
-      ∙ alone (hears_at (Some kind) me) (hears_is kind of)
+      ∙ alone (hears_at (Some kind) me) (hears_is kind of unkeyed)
     where
       alone : (b : Bool) → hears plan me g 0 ≡ b → filter (hears plan me g) (0 ∷ []) ≡ cond b (0 ∷ []) []
       alone true e = rw e refl
@@ -273,23 +284,24 @@ module _ (plan : Gates) (me g : ℕ) (gate : Gate) (valid : IsPlan plan) (here :
       heard_rounds plan me g ≡ []
   in_none kind of none = ap (λ n. filter (hears plan me g) (each n (λ r. r))) (rounds_are kind of ∙ none)
 
-  pub heard_rounds_are : (kind : Kind) → gate.kind ≡ kind → heard_rounds plan me g ≡ rounds_heard (Some kind) me
-  heard_rounds_are (InA party k) of = in_one (InA party k) of refl
-  heard_rounds_are (MulA x y) of = in_one (MulA x y) of refl
-  heard_rounds_are (OutA x receiver) of = in_one (OutA x receiver) of refl
-  heard_rounds_are (InB party k at) of = in_one (InB party k at) of refl
-  heard_rounds_are (AndB x y) of = in_one (AndB x y) of refl
-  heard_rounds_are (OutB x receiver) of = in_one (OutB x receiver) of refl
-  heard_rounds_are (ConstA c) of = in_none (ConstA c) of refl
-  heard_rounds_are (AddA x y) of = in_none (AddA x y) of refl
-  heard_rounds_are (SubA x y) of = in_none (SubA x y) of refl
-  heard_rounds_are (AddConstA x c) of = in_none (AddConstA x c) of refl
-  heard_rounds_are (MulConstA x c) of = in_none (MulConstA x c) of refl
-  heard_rounds_are (ConstB c) of = in_none (ConstB c) of refl
-  heard_rounds_are (XorB x y) of = in_none (XorB x y) of refl
-  heard_rounds_are (XorConstB x c) of = in_none (XorConstB x c) of refl
-  heard_rounds_are (SliceB x at) of = in_none (SliceB x at) of refl
-  heard_rounds_are (JoinB x y) of = in_none (JoinB x y) of refl
+  pub heard_rounds_are : (kind : Kind) → gate.kind ≡ kind → is_of_keys kind ≡ false → heard_rounds plan me g ≡ rounds_heard (Some kind) me
+  heard_rounds_are (InA party k) of unkeyed = in_one (InA party k) of unkeyed refl
+  heard_rounds_are (MulA x y) of unkeyed = in_one (MulA x y) of unkeyed refl
+  heard_rounds_are (OutA x receiver) of unkeyed = in_one (OutA x receiver) of unkeyed refl
+  heard_rounds_are (InB party k at) of unkeyed = in_one (InB party k at) of unkeyed refl
+  heard_rounds_are (AndB x y) of unkeyed = in_one (AndB x y) of unkeyed refl
+  heard_rounds_are (OutB x receiver) of unkeyed = in_one (OutB x receiver) of unkeyed refl
+  heard_rounds_are (ConstA c) of unkeyed = in_none (ConstA c) of refl
+  heard_rounds_are (AddA x y) of unkeyed = in_none (AddA x y) of refl
+  heard_rounds_are (SubA x y) of unkeyed = in_none (SubA x y) of refl
+  heard_rounds_are (AddConstA x c) of unkeyed = in_none (AddConstA x c) of refl
+  heard_rounds_are (MulConstA x c) of unkeyed = in_none (MulConstA x c) of refl
+  heard_rounds_are (ConstB c) of unkeyed = in_none (ConstB c) of refl
+  heard_rounds_are (XorB x y) of unkeyed = in_none (XorB x y) of refl
+  heard_rounds_are (XorConstB x c) of unkeyed = in_none (XorConstB x c) of refl
+  heard_rounds_are (SliceB x at) of unkeyed = in_none (SliceB x at) of refl
+  heard_rounds_are (JoinB x y) of unkeyed = in_none (JoinB x y) of refl
+  heard_rounds_are _ of unkeyed = cc
 
   -- who sends at a gate at which all send to those who hear
   pub senders_all : (kind : Kind) → gate.kind ≡ kind → ((from : ℕ) → sends kind from me ≡ true) →

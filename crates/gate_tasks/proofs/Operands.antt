@@ -4,7 +4,7 @@ use Rattle.std.specs.Prelude.{option_map, slice_get, slice_index_or}
 use Rattle.std.specs.List.{AllByRecursion}
 use Rattle.std.specs.Option.{unwrap_or}
 use Rattle.share_types.specs.declared.bits.Bits.{Bits}
-use Rattle.plan_gates.specs.Gate.{Kind, Gate, Given, Use, Word, Vector, width_at, gives, uses, operands, MulA, SliceB, JoinB, AndB}
+use Rattle.plan_gates.specs.Gate.{Kind, Gate, Given, Use, Word, Vector, width_at, gives, uses, operands, MulA, SliceB, JoinB, AndB, SliceMask, JoinMask, SliceOnline, JoinOnline}
 use Rattle.plan_gates.specs.declared.draft.Sizes.{Sizes}
 use Rattle.plan_gates.specs.Plan.{Gates, IsPlan, IsOperand, FitWidths, sizes_of}
 use Rattle.plan_gates.specs.Needs.{offset, needs_at, needs_there, needs_of}
@@ -115,6 +115,10 @@ width_of gates x gate e = ap (λ (o : Option Gate). unwrap_or (option_map (λ (y
 fit_same : (kind : Kind) (w : ℕ) (ws : List ℕ) → keeps_width (Some kind) ≡ true → FitWidths kind w ws → AllByRecursion (λ v. v ≡ w) ws
 fit_same (SliceB x at) w ws e fit = cc
 fit_same (JoinB x y) w ws e fit = cc
+fit_same (SliceMask u at) w ws e fit = cc
+fit_same (JoinMask u v) w ws e fit = cc
+fit_same (SliceOnline u at) w ws e fit = cc
+fit_same (JoinOnline u v) w ws e fit = cc
 fit_same _ w ws e fit = fit
 
 -- an operand of a gate that keeps its width is as wide

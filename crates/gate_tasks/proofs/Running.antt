@@ -9,13 +9,14 @@ use Rattle.share_types.specs.Sums.{each}
 use Rattle.plan_gates.specs.declared.message.Message.{Message}
 use Rattle.plan_gates.specs.Gate.{Kind, Gate, InA, InB, operands}
 use Rattle.plan_gates.specs.declared.draft.Sizes.{Sizes}
-use Rattle.plan_gates.specs.Plan.{Gates, IsPlan, sizes_of}
+use Rattle.plan_gates.specs.Plan.{Gates, IsPlan, has_keys, sizes_of}
+use Rattle.plan_gates.proofs.KeyLemmas.{unkeyed_at}
 use Rattle.plan_gates.specs.Messages.{message, messages_of, messages_at, are_two, rounds, stages, awaits, sent_in}
 use Rattle.joint_run.specs.Party.{Own, Value, Told, Payload, Hand, Rounds, word_share, vector_share, silence, sends_at, gate_sends, gate_value, round_sends, value_at, WordShare, VectorShare, kept_word, kept_vector, width}
 use Rattle.joint_run.specs.Party as party
 use Rattle.joint_run.specs.Payload.{word_in, vector_in}
 use Rattle.gate_tasks.specs.Stage.{value_of, own_with, hand_in, gate_of, out_to, outs_in, outs_of, formed_in, formed_before, kept_in, carried_to, is_last, rounds_sent, senders, kind_at, operands_of, operands_at, heard_in, IsStage, Gives}
-use Rattle.gate_tasks.specs.ByValue.{kind_in, stand, word_at, vector_at, value_from, formed_of, given_of, value_of_stage, hears_at, rounds_heard, is_owned}
+use Rattle.gate_tasks.specs.ByValue.{kind_in, stand, word_at, vector_at, value_from, formed_of, given_of, value_of_stage, hears_at, rounds_heard, is_owned, is_keyed}
 use Rattle.gate_tasks.specs.Sending.{out_by, outs_by, first_payload, round_outs, outs_for, kept_for}
 use Rattle.gate_tasks.specs.declared.value.Value.{Value as ValueInMemory}
 use Rattle.gate_tasks.specs.declared.own.StageEnv.{StageEnv}
@@ -31,10 +32,18 @@ use Rattle.mot_base.proofs.Lists.{nothing_behind as nothing_more, same_some as s
 pub kind_here : (plan : Gates) (g : ℕ) (gate : Gate) → slice_get plan.gates g ≡ Some gate → kind_at plan.gates g ≡ Some gate.kind
 kind_here plan g gate here = ap (option_map (λ (y : Gate). y.kind)) here
 
+-- a gate of a plan without gates of keys is none of keys
+pub not_keyed : (plan : Gates) (g : ℕ) → has_keys plan ≡ false → is_keyed (kind_at plan.gates g) ≡ false
+not_keyed plan g unkeyed = by (slice_get plan.gates g) refl
+  where
+    by : (o : Option Gate) → slice_get plan.gates g ≡ o → is_keyed (option_map (λ (y : Gate). y.kind) o) ≡ false
+    by None e = refl
+    by (Some gate) e = unkeyed_at plan g gate unkeyed e
+
 abbrev no_rounds : List ℕ
 no_rounds = []
 
-module _ (plan : Gates) (me g : ℕ) (valid : IsPlan plan) (there : g < length plan.gates) (inside : me < plan.parties) where
+module _ (plan : Gates) (me g : ℕ) (valid : IsPlan plan) (unkeyed : has_keys plan ≡ false) (there : g < length plan.gates) (inside : me < plan.parties) where
   abbrev heard : List ℕ
   heard = rounds_heard (kind_at plan.gates g) me
 
@@ -43,13 +52,13 @@ module _ (plan : Gates) (me g : ℕ) (valid : IsPlan plan) (there : g < length p
   stages_are =
       let (gate, here) = inside_there plan.gates g there in
       ap (λ (xs : List ℕ). 1 + length xs)
-      (heard_rounds_are plan me g gate valid here inside gate.kind refl ∙ sym (ap (λ o. rounds_heard o me) (kind_here plan g gate here)))
+      (heard_rounds_are plan me g gate valid here inside gate.kind refl (unkeyed_at plan g gate unkeyed here) ∙ sym (ap (λ o. rounds_heard o me) (kind_here plan g gate here)))
 
   awaits_are : (stage : ℕ) → awaits plan me g (suc stage) ≡ slice_get heard stage
   awaits_are stage =
       let (gate, here) = inside_there plan.gates g there in
       ap (λ (xs : List ℕ). slice_get xs stage)
-      (heard_rounds_are plan me g gate valid here inside gate.kind refl ∙ sym (ap (λ o. rounds_heard o me) (kind_here plan g gate here)))
+      (heard_rounds_are plan me g gate valid here inside gate.kind refl (unkeyed_at plan g gate unkeyed here) ∙ sym (ap (λ o. rounds_heard o me) (kind_here plan g gate here)))
 
   if_long : (b : Bool) → hears_at (kind_at plan.gates g) me ≡ b → length heard ≡ cond b 1 0
   if_long true e = ap (λ b. length (cond b (0 ∷ no_rounds) no_rounds)) e
@@ -169,7 +178,7 @@ module _ (env : StageEnv) (values : List Value) (got : Rounds) (wires : List Val
       map_filtered plan.parties (λ to. is_some (message plan me to env.gate round)) (out_by env round f) (out_to h got round)
       (λ to less e. ap (λ (p : Payload). record { to = record { 0 = to }; gate = env.gate; round = round; payload = p }) (same to e))
 
-  module _ (valid : IsPlan plan) (there : env.gate < length plan.gates) (inside : me < plan.parties) where
+  module _ (valid : IsPlan plan) (unkeyed : has_keys plan ≡ false) (there : env.gate < length plan.gates) (inside : me < plan.parties) where
     -- ---- the one stage of an input at its owner
 
     pub gives_input : (stage : ℕ) (carried : Option (List Payload)) (heard : List Payload) (given : StageOut) →
@@ -180,10 +189,10 @@ module _ (env : StageEnv) (values : List Value) (got : Rounds) (wires : List Val
         let (gate, here) = inside_there plan.gates env.gate there in
         let kind = kind_here plan env.gate gate here in
         let silent : hears_at (kind_in env) me ≡ false = owned_silent (kind_in env) me owned in
-        let first = silent_alone plan me env.gate valid there inside stage silent less in
+        let first = silent_alone plan me env.gate valid unkeyed there inside stage silent less in
         let owns : is_owned (Some gate.kind) me ≡ true = sym (ap (λ o. is_owned o me) kind) ∙ owned in
         let last : is_last plan me env.gate 0 ≡ true =
-        eq-eqb (stages plan me env.gate) 1 (stages_are plan me env.gate valid there inside ∙ ap (λ n. 1 + n) (if_long plan me env.gate valid there inside false silent)) in
+        eq-eqb (stages plan me env.gate) 1 (stages_are plan me env.gate valid unkeyed there inside ∙ ap (λ n. 1 + n) (if_long plan me env.gate valid unkeyed there inside false silent)) in
         let one = one_round plan me env.gate gate valid here inside gate.kind refl (owned_round gate.kind (sizes_of plan gate) me owns) in
         let sent : outs_of h got 0 ≡ outs_in h got 0 =
         ap (λ n. flat_map (outs_in h got) (filter (λ round. sent_in plan me env.gate round == 0) (each n (λ r. r)))) one ∙ nothing_more (outs_in h got 0) in
@@ -290,15 +299,15 @@ module _ (env : StageEnv) (values : List Value) (got : Rounds) (wires : List Val
         heard_there : (stage : ℕ) → stages plan me env.gate ≡ stage + 1 → heard ≡ heard_in h got (awaits plan me env.gate stage) → hears_at (kind_in env) me ≡ true →
             heard ≡ map (got 0) (senders plan me env.gate 0)
         heard_there zero ends are hears =
-            let silent = last_silent plan me env.gate valid there inside 0 ends refl in
+            let silent = last_silent plan me env.gate valid unkeyed there inside 0 ends refl in
             let contrary = sym hears ∙ silent in cc
         heard_there (suc stage) ends are hears =
-            are ∙ ap (heard_in h got) (last_hears plan me env.gate valid there inside (suc stage) ends (λ e. absurd (omega (arith, e)))).1
+            are ∙ ap (heard_in h got) (last_hears plan me env.gate valid unkeyed there inside (suc stage) ends (λ e. absurd (omega (arith, e)))).1
 
 -- ---- what is known of an answer
 
 module _ (env : StageEnv) (wires : List ValueInMemory) (carried : Option (List Payload)) (heard : List Payload) (valid : IsPlan env.plan.now)
-    (there : env.gate < length env.plan.now.gates) (inside : env.own.now.me.0 < env.plan.now.parties) where
+    (unkeyed : has_keys env.plan.now ≡ false) (there : env.gate < length env.plan.now.gates) (inside : env.own.now.me.0 < env.plan.now.parties) where
   abbrev pub GivesAt : ℕ → StageOut → Type 0
   GivesAt stage given =
       (before : List Value) (got : Rounds) → IsStage (hand_in env before) got stage wires carried heard → Gives (hand_in env before) got stage given
@@ -308,7 +317,7 @@ module _ (env : StageEnv) (wires : List ValueInMemory) (carried : Option (List P
       IfOk r (λ given. option_map value_of given.value ≡ Some (value_of_stage (kind_in env) (stand env) [] [])) →
       IfOk r (λ given. given.out ≡ outs_by env 0 (given_of (kind_in env) (stand env))) → IfOk r (GivesAt stage)
   input_answer stage (Ok given) owned less carries value outs =
-      λ before got is. gives_input env before got wires valid there inside stage carried heard given owned less is carries value outs
+      λ before got is. gives_input env before got wires valid unkeyed there inside stage carried heard given owned less is carries value outs
   input_answer stage (Err e) owned less carries value outs = tt
 
   abbrev sent : ℕ → List Out
@@ -319,12 +328,12 @@ module _ (env : StageEnv) (wires : List ValueInMemory) (carried : Option (List P
       kept ≡ unwrap_or carried [] ++ kept_for env (formed_of (kind_in env) (stand env) wires) (rounds_sent env.plan.now env.own.now.me.0 env.gate stage) →
       given ≡ record { carried = Some kept; value = None; out = out } → GivesAt stage given
   early_answer stage kept out given other less sends keeps made before got is =
-      gives_early env before got wires valid there inside stage carried heard given other less is
+      gives_early env before got wires valid unkeyed there inside stage carried heard given other less is
       (ap (λ (o : StageOut). o.out) made ∙ sends) (ap (λ (o : StageOut). o.value) made) (ap (λ (o : StageOut). o.carried) made ∙ ap (λ (ps : List Payload). Some ps) keeps)
 
   pub last_answer : (stage : ℕ) (value : ValueInMemory) (out : List Out) (given : StageOut) → is_owned (kind_in env) env.own.now.me.0 ≡ false →
       stages env.plan.now env.own.now.me.0 env.gate ≡ stage + 1 → out ≡ sent stage →
       value_of value ≡ value_of_stage (kind_in env) (stand env) wires heard → given ≡ record { carried = None; value = Some value; out = out } → GivesAt stage given
   last_answer stage value out given other ends sends is made before got at =
-      gives_last env before got wires valid there inside stage carried heard given other ends at
+      gives_last env before got wires valid unkeyed there inside stage carried heard given other ends at
       (ap (λ (o : StageOut). o.out) made ∙ sends) (ap (λ (o : StageOut). option_map value_of o.value) made ∙ ap (λ (v : Value). Some v) is) (ap (λ (o : StageOut). o.carried) made)

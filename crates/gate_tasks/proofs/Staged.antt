@@ -6,14 +6,14 @@ use Rattle.share_types.specs.Sums.{total, xor_total, sum_to, xor_to, each, word_
 use Rattle.share_types.proofs.Parties.{sum_to_same, xor_to_same}
 use Rattle.arithmetic_gmw.specs.Shares as arithmetic
 use Rattle.boolean_gmw.specs.Shares as boolean
-use Rattle.plan_gates.specs.Gate.{Kind, Gate, InA, ConstA, AddA, SubA, AddConstA, MulConstA, MulA, OutA, InB, ConstB, XorB, XorConstB, SliceB, JoinB, AndB, OutB, operands, party_of, width_at}
+use Rattle.plan_gates.specs.Gate.{Kind, Gate, InA, ConstA, AddA, SubA, AddConstA, MulConstA, MulA, OutA, InB, ConstB, XorB, XorConstB, SliceB, JoinB, AndB, OutB, operands, party_of, width_at, InOnline, Garble}
 use Rattle.plan_gates.specs.declared.message.Message.{Message}
 use Rattle.plan_gates.specs.declared.draft.Sizes.{Sizes}
 use Rattle.plan_gates.specs.Plan.{Gates, IsPlan}
 use Rattle.plan_gates.specs.Messages.{words, vectors, messages_of}
 use Rattle.share_types.specs.Wires.{includes}
 use Rattle.joint_run.specs.Payload.{word_bytes, word_in, vectors_bytes, vector_in}
-use Rattle.joint_run.specs.Party.{Own, Value, WordShare, VectorShare, Told, Payload, Hand, Rounds, hand, word, vector, width, triple, bit_triple, given_word, given_vector, kept_word, kept_vector, opened_word, opened_vector, left_word, right_word, left_vector, right_vector, gate_value, gate_sends, silence}
+use Rattle.joint_run.specs.Party.{Own, Value, WordShare, VectorShare, Told, Payload, Heard, Hand, Rounds, hand, word, vector, width, triple, bit_triple, given_word, given_vector, kept_word, kept_vector, opened_word, opened_vector, left_word, right_word, left_vector, right_vector, gate_value, gate_sends, silence}
 use Rattle.gate_tasks.specs.Stage.{senders}
 use Rattle.gate_tasks.specs.ByValue.{word_at, vector_at, opened_words, opened_vectors, formed, given_out, value_from, hears_at, is_owned}
 use Rattle.gate_tasks.specs.declared.value.Value.{Value as ValueInMemory}
@@ -53,6 +53,12 @@ xor_of_others n me part w inside =
 
 abbrev no_messages : List (Option Message)
 no_messages = []
+
+abbrev no_payloads : List Payload
+no_payloads = []
+
+abbrev nobody_sends : List Heard
+nobody_sends = []
 
 none_behind : (r : ℕ) → is_some (entry_at no_messages r) ≡ true → ⊥
 none_behind zero e = cc
@@ -173,6 +179,11 @@ module _ (plan : Gates) (me g : ℕ) (own : Own) (before : List Value) (got : Ro
         by false e =
             ap (λ b. Told (cond b (Some (opened_vectors (width h) (vector_at wires 0) 0 heard)) None)) e
             ∙ sym (ap (λ b. Told (cond b (Some (opened_vector h (vector h x) (got 0) 0)) None)) e)
+    value_is _ of agree hears = refl
+
+  nothing_at : (r to : ℕ) → get_or no_payloads r [] ≡ get_or nobody_sends r silence to
+  nothing_at zero to = refl
+  nothing_at (suc r) to = refl
 
   -- what is sent to those to whom something is sent, whatever the round
   pub formed_is : (kind : Kind) (sizes : Sizes) (rounds : Rounds) (round to : ℕ) → Agree kind → is_owned (Some kind) me ≡ false →
@@ -198,6 +209,8 @@ module _ (plan : Gates) (me g : ℕ) (own : Own) (before : List Value) (got : Ro
       ap (λ a. vectors_bytes (width h) (a ∷ [])) (agree 0 x refl).1
       ∙ sym (ap (λ b. cond b (vectors_bytes (width h) (vector h x ∷ [])) []) (is_if (includes receiver to) (vectors 1 sizes.width) e))
   formed_is (OutB x receiver) sizes rounds (suc r) to agree other e = absurd (none_behind r e)
+  formed_is (InOnline party k at m) sizes rounds r to agree other e = nothing_at r to
+  formed_is (Garble u v m) sizes rounds r to agree other e = nothing_at r to
   formed_is _ sizes rounds r to agree other e = absurd (none_behind r e)
 
   pub given_is : (kind : Kind) (rounds : Rounds) (to : ℕ) → is_owned (Some kind) me ≡ true →

@@ -4,7 +4,7 @@ use Rattle.std.specs.Prelude.{ℕ, ◌≡◌, IfSome, Bool, true, false, not, �
 use Rattle.share_types.specs.Sums.{word_sum, word_difference, word_product, part_of_public, total, xor_total}
 use Rattle.arithmetic_gmw.specs.Shares as arithmetic
 use Rattle.boolean_gmw.specs.Shares as boolean
-use Rattle.plan_gates.specs.Gate.{Kind, Given, InA, ConstA, AddA, SubA, AddConstA, MulConstA, MulA, OutA, InB, ConstB, XorB, XorConstB, SliceB, JoinB, AndB, OutB, Word, Vector, uses, gives, width_at}
+use Rattle.plan_gates.specs.Gate.{Kind, Given, InA, ConstA, AddA, SubA, AddConstA, MulConstA, MulA, OutA, InB, ConstB, XorB, XorConstB, SliceB, JoinB, AndB, OutB, SliceMask, JoinMask, SliceOnline, JoinOnline, Word, Vector, uses, gives, is_of_keys, width_at}
 use Rattle.plan_gates.specs.Gate as plan
 use Rattle.share_types.specs.Wires.{includes}
 use Rattle.joint_run.specs.Payload.{word_bytes, word_in, vectors_bytes, vector_in}
@@ -93,6 +93,7 @@ value_from (JoinB x y) h wires heard =
 value_from (AndB x y) h wires heard = VectorShare (conjunction_of h wires heard)
 value_from (OutB x to) h wires heard =
     Told (if includes to h.me then Some (opened_vectors (width h) (vector_at wires 0) 0 heard) else None)
+value_from _ h wires heard = Told None
 
 -- ---- the gate at which a party stands, if there is one
 
@@ -137,6 +138,11 @@ is_owned (Some (InA party k)) me = party == me
 is_owned (Some (InB party k at)) me = party == me
 is_owned _ me = false
 
+-- whether it is one of keys
+abbrev pub is_keyed : Option Kind → Bool
+is_keyed None = false
+is_keyed (Some kind) = is_of_keys kind
+
 -- whether it is worked out without a message, and gives a word or a vector
 abbrev pub is_own_word : Option Kind → Bool
 is_own_word (Some (ConstA c)) = true
@@ -158,6 +164,10 @@ is_own_vector _ = false
 abbrev pub keeps_width : Option Kind → Bool
 keeps_width (Some (SliceB x at)) = false
 keeps_width (Some (JoinB x y)) = false
+keeps_width (Some (SliceMask u at)) = false
+keeps_width (Some (JoinMask u v)) = false
+keeps_width (Some (SliceOnline u at)) = false
+keeps_width (Some (JoinOnline u v)) = false
 keeps_width _ = true
 
 abbrev pub is_product : Option Kind → Bool

@@ -9,7 +9,7 @@ use Rattle.message_demux.specs.Slots.{has_high_bits}
 use Rattle.dealer_files.specs.Part.{Part, counts_of}
 use Rattle.plan_gates.specs.Gate.{Kind, Gate, Word, Vector, InB, gives, operands}
 use Rattle.plan_gates.specs.Gate as plan
-use Rattle.plan_gates.specs.Plan.{Gates}
+use Rattle.plan_gates.specs.Plan.{Gates, has_keys}
 use Rattle.plan_gates.specs.Needs.{offset, needs_at}
 use Rattle.plan_gates.specs.declared.message.Message.{Message}
 use Rattle.plan_gates.specs.Messages.{message, rounds, stages, awaits, sent_in}
@@ -162,9 +162,11 @@ HasInput gate me inputs =
     taken_from gate.kind + gate.width ≤ length (get_or inputs t.k [])
 
 -- own data and a part of a deal that serve a gate: the part is the party's, for the parties of the plan, the session has
--- share words, the input is there that the gate takes, and there are records of each kind that the gate needs
+-- share words, the input is there that the gate takes, and there are records of each kind that the gate needs. No stage runs
+-- gates of keys yet, so that the plan has none
 pub record Serves (plan : Gates) (own : OwnInMemory) (part : Part) (g : ℕ) : Type 0 where
   pub there : g < length plan.gates
+  pub unkeyed : has_keys plan ≡ false
   pub party : part.party ≡ own.me.0
   pub parties : part.parties ≡ plan.parties
   pub session : own.session < session_count

@@ -26,7 +26,7 @@ impl<'a> StageEnv<'a> {
         ensures { (result ≡ true)
             ↔ Serves self.now.plan.now self.now.own.now self.now.part.now self.now.gate }
     {
-        if self.gate >= self.plan.gates() {
+        if self.gate >= self.plan.gates() || self.plan.has_keys() {
             return false;
         }
         if !is_part_of(self.plan, self.own.me, self.own, self.part) {
@@ -238,7 +238,8 @@ fn gives_vector(kind: GateKind) -> bool
         | GateKind::XorConstB { .. }
         | GateKind::SliceB { .. }
         | GateKind::JoinB { .. }
-        | GateKind::AndB { .. } => true,
+        | GateKind::AndB { .. }
+        | GateKind::YToB { .. } => true,
         _ => false,
     }
 }

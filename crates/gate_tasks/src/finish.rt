@@ -7,7 +7,7 @@ ghost use Rattle.plan_gates.specs.Gate.{Given};
 ghost use Rattle.plan_gates.specs.Plan.{IsPlan};
 ghost use Rattle.joint_run.specs.Party.{WordShare, VectorShare, Told, width};
 ghost use Rattle.gate_tasks.specs.Stage.{Serves, AreOperands, AreAwaited, value_of};
-ghost use Rattle.gate_tasks.specs.ByValue.{kind_in, stand, gives_of, IsGiven, hears_at, is_owned, is_own_word, is_own_vector, value_of_stage, product_of, conjunction_of, is_product, is_conjunction};
+ghost use Rattle.gate_tasks.specs.ByValue.{kind_in, stand, gives_of, IsGiven, hears_at, is_owned, is_keyed, is_own_word, is_own_vector, value_of_stage, product_of, conjunction_of, is_product, is_conjunction};
 
 use crate::heard::{opened_vector, opened_word, vector_heard};
 use crate::operand::{bit_triple, mult_triple, vector_at, word_at};
@@ -27,6 +27,7 @@ pub(crate) fn own_value(env: &StageEnv, wires: &[Value]) -> Value
     requires operands { AreOperands env.now.plan.now env.now.gate wires.now }
     requires silent { hears_at (kind_in env.now) env.now.own.now.me.0 ≡ false }
     requires others { is_owned (kind_in env.now) env.now.own.now.me.0 ≡ false }
+    requires unkeyed { is_keyed (kind_in env.now) ≡ false }
     ensures value { value_of result ≡ value_of_stage (kind_in env.now) (stand env.now) wires.now [] }
     ensures typed { IsGiven (gives_of (kind_in env.now)) (width (stand env.now)) result }
 {

@@ -7,9 +7,10 @@ use Rattle.std.proofs.lemmas.Bool.{ltb-true}
 use Rattle.byteorder.specs.Numbers.{length-bytes_high_first}
 use Rattle.byteorder.specs.Endian.{big_bytes}
 use Rattle.message_demux.specs.Slots.{vector_bytes}
-use Rattle.plan_gates.specs.Gate.{Kind, Gate, width_at, InA, MulA, OutA, InB, AndB, OutB}
+use Rattle.plan_gates.specs.Gate.{Kind, Gate, width_at, InA, MulA, OutA, InB, AndB, OutB, InOnline, Garble, is_of_keys}
 use Rattle.plan_gates.specs.declared.draft.Sizes.{Sizes}
-use Rattle.plan_gates.specs.Plan.{Gates, sizes_of}
+use Rattle.plan_gates.specs.Plan.{Gates, has_keys, sizes_of}
+use Rattle.plan_gates.proofs.KeyLemmas.{unkeyed_at}
 use Rattle.plan_gates.specs.Messages.{words, vectors, messages_of, messages_at, message, are_two}
 use Rattle.share_types.specs.Wires.{includes}
 use Rattle.joint_run.specs.Payload.{word_bytes, vectors_bytes}
@@ -49,32 +50,34 @@ chosen_words true bytes count is = is
 chosen_words false bytes count is = refl
 
 -- what is sent in a round of a gate, and the message that is stated
-fits : (kind : Kind) (sizes : Sizes) (h : Hand) (got : Rounds) (to r : ℕ) → width h ≡ sizes.width →
+fits : (kind : Kind) (sizes : Sizes) (h : Hand) (got : Rounds) (to r : ℕ) → width h ≡ sizes.width → is_of_keys kind ≡ false →
     length (get_or (gate_sends kind h got) r silence to) ≡ length_of (unwrap_or (slice_get (messages_of kind sizes h.me to) r) None)
-fits (InA party k) sizes h got to zero e =
+fits (InA party k) sizes h got to zero e u =
     let ws : List ℕ = given_word h to ∷ [] in
     chosen_words (party == h.me) (word_bytes ws) 1 (words-length ws) ∙ ap (λ b. length_of (if b then Some (words 1) else None)) (turned party h.me)
-fits (MulA x y) sizes h got to zero e = words-length (left_word h x ∷ right_word h y ∷ [])
-fits (OutA x receiver) sizes h got to zero e =
+fits (MulA x y) sizes h got to zero e u = words-length (left_word h x ∷ right_word h y ∷ [])
+fits (OutA x receiver) sizes h got to zero e u =
     let ws : List ℕ = word h x ∷ [] in
     chosen_words (includes receiver to) (word_bytes ws) 1 (words-length ws)
-fits (InB party k at) sizes h got to zero e =
+fits (InB party k at) sizes h got to zero e u =
     let vs : List ℕ = given_vector h to ∷ [] in
     chosen (party == h.me) (vectors_bytes (width h) vs) (width h) 1 (vectors-length (width h) vs)
     ∙ ap₂ (λ b v. length_of (if b then Some (vectors 1 v) else None)) (turned party h.me) e
-fits (AndB x y) sizes h got to zero e =
+fits (AndB x y) sizes h got to zero e u =
     vectors-length (width h) (left_vector h x ∷ right_vector h y ∷ []) ∙ ap (λ v. 2 * vector_bytes v) e
-fits (OutB x receiver) sizes h got to zero e =
+fits (OutB x receiver) sizes h got to zero e u =
     let vs : List ℕ = vector h x ∷ [] in
     chosen (includes receiver to) (vectors_bytes (width h) vs) (width h) 1 (vectors-length (width h) vs)
     ∙ ap (λ v. length_of (if includes receiver to then Some (vectors 1 v) else None)) e
-fits (InA party k) sizes h got to (suc r) e = refl
-fits (MulA x y) sizes h got to (suc r) e = refl
-fits (OutA x receiver) sizes h got to (suc r) e = refl
-fits (InB party k at) sizes h got to (suc r) e = refl
-fits (AndB x y) sizes h got to (suc r) e = refl
-fits (OutB x receiver) sizes h got to (suc r) e = refl
-fits _ sizes h got to r e = refl
+fits (InA party k) sizes h got to (suc r) e u = refl
+fits (MulA x y) sizes h got to (suc r) e u = refl
+fits (OutA x receiver) sizes h got to (suc r) e u = refl
+fits (InB party k at) sizes h got to (suc r) e u = refl
+fits (AndB x y) sizes h got to (suc r) e u = refl
+fits (OutB x receiver) sizes h got to (suc r) e u = refl
+fits (InOnline party k at m) sizes h got to r e u = cc
+fits (Garble x y m) sizes h got to r e u = cc
+fits _ sizes h got to r e u = refl
 
 none_there : {X : Type 0} {x : X} → None ≡ Some x → ⊥
 none_there h = cc
@@ -89,32 +92,32 @@ first_of n from to both = at (nat_lt from n) refl
         false_true : false ≡ true → ⊥
         false_true h = cc
 
-gate_fits : (plan : Gates) (g r to : ℕ) (h : Hand) (got : Rounds) (o : Option Gate) → slice_get plan.gates g ≡ o → width h ≡ width_at plan.gates g →
+gate_fits : (plan : Gates) → has_keys plan ≡ false → (g r to : ℕ) (h : Hand) (got : Rounds) (o : Option Gate) → slice_get plan.gates g ≡ o → width h ≡ width_at plan.gates g →
     length (get_or (sends_at o h got) r silence to) ≡ length_of (unwrap_or (slice_get (messages_at plan o h.me to) r) None)
-gate_fits plan g r to h got None found e = refl
-gate_fits plan g r to h got (Some gate) found e =
+gate_fits plan unkeyed g r to h got None found e = refl
+gate_fits plan unkeyed g r to h got (Some gate) found e =
     fits gate.kind (sizes_of plan gate) h got to r
-    (e ∙ ap (λ o. unwrap_or (option_map (λ (x : Gate). x.width) o) 0) found)
+    (e ∙ ap (λ o. unwrap_or (option_map (λ (x : Gate). x.width) o) 0) found) (unkeyed_at plan g gate unkeyed found)
 
 -- what a party sends has the length that the plan states, whatever it was sent
-sends_by : (plan : Gates) (me : ℕ) (own : Own) (inbox : Inbox) (g r to : ℕ) (b : Bool) → are_two plan.parties me to ≡ b →
+sends_by : (plan : Gates) → has_keys plan ≡ false → (me : ℕ) (own : Own) (inbox : Inbox) (g r to : ℕ) (b : Bool) → are_two plan.parties me to ≡ b →
     length (party_sends plan me own inbox g r to) ≡ length_of (message plan me to g r)
-sends_by plan me own inbox g r to true both =
-    rw both (gate_fits plan g r to (hand_at plan me own inbox g) (before r (inbox g)) (slice_get plan.gates g) refl refl)
-sends_by plan me own inbox g r to false both = rw both refl
+sends_by plan unkeyed me own inbox g r to true both =
+    rw both (gate_fits plan unkeyed g r to (hand_at plan me own inbox g) (before r (inbox g)) (slice_get plan.gates g) refl refl)
+sends_by plan unkeyed me own inbox g r to false both = rw both refl
 
-pub sends_fit : (plan : Gates) (me : ℕ) (own : Own) (inbox : Inbox) (g r to : ℕ) →
+pub sends_fit : (plan : Gates) → has_keys plan ≡ false → (me : ℕ) (own : Own) (inbox : Inbox) (g r to : ℕ) →
     length (party_sends plan me own inbox g r to) ≡ length_of (message plan me to g r)
-sends_fit plan me own inbox g r to = sends_by plan me own inbox g r to (are_two plan.parties me to) refl
+sends_fit plan unkeyed me own inbox g r to = sends_by plan unkeyed me own inbox g r to (are_two plan.parties me to) refl
 
-module _ (plan : Gates) (owns : List Own) (table : Payloads) (count : length owns ≡ plan.parties) (joint : IsJoint plan owns table) where
+module _ (plan : Gates) (owns : List Own) (table : Payloads) (unkeyed : has_keys plan ≡ false) (count : length owns ≡ plan.parties) (joint : IsJoint plan owns table) where
   sent_fits : (g r from to : ℕ) (b : Bool) → are_two plan.parties from to ≡ b → (o : Option Own) → slice_get owns from ≡ o →
       length (sent_by plan from o (column table from) g r to) ≡ length_of (message plan from to g r)
   sent_fits g r from to true both None there = absurd (none_there (sym there ∙ there_is owns from nobody (subst (λ m. from < m) (sym count) (first_of plan.parties from to both))))
   sent_fits g r from to false both None there = rw both refl
-  sent_fits g r from to b both (Some own) there = sends_fit plan from own (column table from) g r to
+  sent_fits g r from to b both (Some own) there = sends_fit plan unkeyed from own (column table from) g r to
 
 pub payloads_have_their_lengths : PayloadsHaveTheirLengths
-payloads_have_their_lengths plan owns table count joint g r from to =
+payloads_have_their_lengths plan owns table unkeyed count joint g r from to =
     ap (λ (bytes : List ℕ). length bytes) (joint g r from to)
-    ∙ sent_fits plan owns table count joint g r from to (are_two plan.parties from to) refl (slice_get owns from) refl
+    ∙ sent_fits plan owns table unkeyed count joint g r from to (are_two plan.parties from to) refl (slice_get owns from) refl

@@ -16,7 +16,8 @@ use Rattle.message_demux.specs.declared.slots.Shape.TheVariants.{Vectors}
 use Rattle.message_demux.specs.Slots as slots
 use Rattle.message_demux.specs.Slots.{vector_bytes, overflows, has_high_bits}
 use Rattle.plan_gates.specs.Gate.{Kind, Gate, Vector, vector as vector_use, gives, width_at, InA, ConstA, AddA, SubA, AddConstA, MulConstA, MulA, OutA, InB, ConstB, XorB, XorConstB, SliceB, JoinB, AndB, OutB}
-use Rattle.plan_gates.specs.Plan.{Gates, IsPlan, IsGate, IsOperand, sizes_of}
+use Rattle.plan_gates.specs.Plan.{Gates, IsPlan, IsGate, IsOperand, sizes_of, has_keys}
+use Rattle.plan_gates.proofs.KeyLemmas.{unkeyed_at}
 use Rattle.plan_gates.specs.declared.message.Message.{Message}
 use Rattle.plan_gates.specs.Messages.{words, vectors, messages_of, messages_at, are_two}
 use Rattle.share_types.specs.Wires.{includes}
@@ -89,7 +90,7 @@ two_parts n from to both =
 
 -- ---- shares
 
-module _ (plan : Gates) (owns : List Own) (table : Payloads) (valid : IsPlan plan) (each : length owns ≡ plan.parties) (joint : IsJoint plan owns table) where
+module _ (plan : Gates) (owns : List Own) (table : Payloads) (valid : IsPlan plan) (unkeyed : has_keys plan ≡ false) (each : length owns ≡ plan.parties) (joint : IsJoint plan owns table) where
   abbrev n : ℕ
   n = plan.parties
 
@@ -238,6 +239,8 @@ module _ (plan : Gates) (owns : List Own) (table : Payloads) (valid : IsPlan pla
   value_small g (MulA x y) width ih found is vector p h = cc
   value_small g (OutA x to) width ih found is vector p h = cc
   value_small g (OutB x to) width ih found is vector p h = cc
+  value_small g kind width ih found is vector p h =
+      let never = unkeyed_at plan g (record { kind = kind; width = width }) unkeyed found in cc
 
   narrow : (g : ℕ) → IsNarrow g
   narrow = strong IsNarrow (λ g ih here found vector p h.
@@ -290,6 +293,8 @@ module _ (plan : Gates) (owns : List Own) (table : Payloads) (valid : IsPlan pla
   kind_shaped g r from to (XorConstB x c) width a b apart found m e = cc
   kind_shaped g r from to (SliceB x low) width a b apart found m e = cc
   kind_shaped g r from to (JoinB x y) width a b apart found m e = cc
+  kind_shaped g r from to kind width a b apart found m e =
+      let never = unkeyed_at plan g (record { kind = kind; width = width }) unkeyed found in cc
 
   gate_shaped : (g r from to : ℕ) (o : Option Gate) → slice_get plan.gates g ≡ o → from < n → to < n → (from ≡ to → ⊥) → (m : Message) →
       unwrap_or (slice_get (messages_at plan o from to) r) None ≡ Some m → has_high_bits m.shape (table g r from to) ≡ false
@@ -305,5 +310,5 @@ module _ (plan : Gates) (owns : List Own) (table : Payloads) (valid : IsPlan pla
       gate_shaped g r from to (slice_get plan.gates g) refl parts.0 parts.1 parts.2 m e
 
 pub payloads_have_their_shapes : PayloadsHaveTheirShapes
-payloads_have_their_shapes plan owns table valid each joint g r from to m e =
-    shaped plan owns table valid each joint g r from to (are_two plan.parties from to) refl m e
+payloads_have_their_shapes plan owns table valid unkeyed each joint g r from to m e =
+    shaped plan owns table valid unkeyed each joint g r from to (are_two plan.parties from to) refl m e

@@ -1,13 +1,14 @@
 -- In a joint run with honest records, the parties' values of each gate recombine to its plain number.
-use Rattle.std.proofs.Common.{ℕ, ◌≡◌, ◌<◌, ◌%◌, ◌^◌, List, length, Some, refl, sym, ◌∙◌, ap, subst}
+use Rattle.std.proofs.Common.{ℕ, ◌≡◌, Bool, true, false, ◌<◌, ◌%◌, ◌^◌, List, length, Some, refl, sym, ◌∙◌, ap, subst}
 use Rattle.std.specs.Prelude.{slice_get, slice_index}
 use Rattle.share_types.specs.declared.needs.Needs.{Needs}
 use Rattle.share_types.specs.Sums.{sum_to, xor_to}
 use Rattle.share_types.specs.Wires.{includes}
 use Rattle.share_types.proofs.Parties.{sum_to_same, xor_to_same}
-use Rattle.plan_gates.specs.Gate.{Kind, Gate, Given, Word, Vector, OutA, OutB, gives, width_at, word as word_use, vector as vector_use}
+use Rattle.plan_gates.specs.Gate.{Kind, Gate, Given, Word, Vector, OutA, OutB, gives, is_of_keys, width_at, word as word_use, vector as vector_use}
 use Rattle.plan_gates.specs.Gate as spec
-use Rattle.plan_gates.specs.Plan.{Gates, IsPlan, IsOperand}
+use Rattle.plan_gates.specs.Plan.{Gates, IsPlan, IsOperand, has_keys}
+use Rattle.plan_gates.proofs.KeyLemmas.{unkeyed_at}
 use Rattle.plan_gates.specs.Plain.{Outside, plain_before, number_at, number_of, seen_of}
 use Rattle.joint_run.specs.Party as party
 use Rattle.joint_run.specs.Party.{Own, Value, Hand, Rounds, wires_before, party_value, value_at, gate_value, word_share, vector_share, Told}
@@ -24,8 +25,20 @@ use Rattle.joint_run.proofs.WordsRight.{word_right, told_word}
 use Rattle.joint_run.proofs.VectorsRight.{vector_right, told_vector}
 use Rattle.mot_base.proofs.Lists.{index_at, inside_of, same_some as some_is}
 
+-- what only gates of keys give
+abbrev is_keyed : Given → Bool
+is_keyed Word = false
+is_keyed Vector = false
+is_keyed spec.Told = false
+is_keyed _ = true
+
+keyed_never : (kind : Kind) → is_of_keys kind ≡ false → is_keyed (gives kind) ≡ false
+keyed_never (OutA x to) plain = refl
+keyed_never (OutB x to) plain = refl
+keyed_never _ plain = cc
+
 module _ (plan : Gates) (owns : List Own) (bases : Needs) (session : ℕ) (outside : Outside) (table : Payloads)
-    (valid : IsPlan plan) (honest : AreHonest plan owns bases session) (inputs_are : AreInputs plan owns outside.inputs) (joint : IsJoint plan owns table) where
+    (valid : IsPlan plan) (unkeyed : has_keys plan ≡ false) (honest : AreHonest plan owns bases session) (inputs_are : AreInputs plan owns outside.inputs) (joint : IsJoint plan owns table) where
   abbrev n : ℕ
   n = plan.parties
 
@@ -110,7 +123,7 @@ module _ (plan : Gates) (owns : List Own) (bases : Needs) (session : ℕ) (outsi
 
   vector_case : (g : ℕ) (gate : Gate) → AreRight g → slice_get plan.gates g ≡ Some gate → gives gate.kind ≡ Vector → RecombineBy Vector gate n (value g) (numbered g)
   vector_case g gate right found vector =
-      let (is, small) = vector_right plan valid outside (plain g) g own (wires g) (got g) gate.kind gate.width found (heard g gate found) (stands g gate right found) vector in (
+      let (is, small) = vector_right plan valid unkeyed outside (plain g) g own (wires g) (got g) gate.kind gate.width found (heard g gate found) (stands g gate right found) vector in (
         xor_to_same n (λ p. vector_share (value g p)) (λ p. vector_share (gate_value gate.kind (at g p) (got g p))) (λ p h. ap vector_share (value_is g p gate found))
             ∙ (is ∙ (ap (λ w. number_of gate.kind (seen_of plan.gates outside (plain g) gate.kind) % 2 ^ w) (wide_is plan g gate found)
             ∙ sym (ap (number_at plan.gates outside (plain g)) found))),
@@ -127,7 +140,7 @@ module _ (plan : Gates) (owns : List Own) (bases : Needs) (session : ℕ) (outsi
   told_case g (OutB x to) width right found told p a =
       let gate : Gate = record { kind = OutB x to; width = width } in
       value_is g p gate found
-      ∙ told_vector plan valid outside (plain g) g own (wires g) (got g) x width p to a found (heard g gate found) (stands g gate right found) (includes to p) refl
+      ∙ told_vector plan valid unkeyed outside (plain g) g own (wires g) (got g) x width p to a found (heard g gate found) (stands g gate right found) (includes to p) refl
   told_case g _ width right found told p a = cc
 
   step : (g : ℕ) → AreRight g → Right g
@@ -137,6 +150,7 @@ module _ (plan : Gates) (owns : List Own) (bases : Needs) (session : ℕ) (outsi
       by Word is = subst (λ t. RecombineBy t gate n (value g) (numbered g)) (sym is) (word_case g gate right found is)
       by Vector is = subst (λ t. RecombineBy t gate n (value g) (numbered g)) (sym is) (vector_case g gate right found is)
       by spec.Told is = subst (λ t. RecombineBy t gate n (value g) (numbered g)) (sym is) (told_case g gate.kind gate.width right found is)
+      by _ is = let never = ap is_keyed (sym is) ∙ keyed_never gate.kind (unkeyed_at plan g gate unkeyed found) in cc
 
   whole : (g : ℕ) (here : Gate) (x : ℕ) → slice_get plan.gates g ≡ Some here →
       slice_get (plain (length plan.gates)) g ≡ Some x → Recombine here n (value g) x
@@ -145,4 +159,5 @@ module _ (plan : Gates) (owns : List Own) (bases : Needs) (session : ℕ) (outsi
       subst (λ v. Recombine here n (value g) v) is (strong Right step g here found)
 
 pub every_gate_recombines : EveryGateRecombines
-every_gate_recombines plan owns bases session outside table valid honest given joint = whole plan owns bases session outside table valid honest given joint
+every_gate_recombines plan owns bases session outside table valid unkeyed honest given joint =
+    whole plan owns bases session outside table valid unkeyed honest given joint

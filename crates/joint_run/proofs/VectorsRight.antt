@@ -12,7 +12,8 @@ use Rattle.boolean_gmw.specs.Shares.{closed_share}
 use Rattle.boolean_gmw.proofs.Xors.{undone, one_apart as xor_apart, xor_small, opened_xor}
 use Rattle.boolean_gmw.proofs.Recombining.{xor-recombines, flipped-recombines, slice-recombines, join-recombines, and-recombines}
 use Rattle.plan_gates.specs.Gate.{Kind, gives, width_at, InB, ConstB, XorB, XorConstB, SliceB, JoinB, AndB, OutB, Vector, vector as vector_use}
-use Rattle.plan_gates.specs.Plan.{Gates, IsPlan, IsGate, IsOperand}
+use Rattle.plan_gates.specs.Plan.{Gates, IsPlan, IsGate, IsOperand, has_keys}
+use Rattle.plan_gates.proofs.KeyLemmas.{unkeyed_at}
 use Rattle.plan_gates.specs.Plain.{Outside, number_at, number_of, seen_of}
 use Rattle.plan_gates.specs.Needs.{needs_at, needs_there}
 use Rattle.joint_run.specs.Party as party
@@ -22,7 +23,7 @@ use Rattle.joint_run.proofs.Standing.{hands, Hear, Stand}
 use Rattle.joint_run.proofs.Sharing.{vector_first, vector_second, choose, short_vector, and_small, join_small, public_xor}
 use Rattle.joint_run.proofs.Run.{wide_is}
 
-module _ (plan : Gates) (valid : IsPlan plan) (outside : Outside) (plain : List ℕ) (g : ℕ)
+module _ (plan : Gates) (valid : IsPlan plan) (unkeyed : has_keys plan ≡ false) (outside : Outside) (plain : List ℕ) (g : ℕ)
     (own : ℕ → Own) (wires : ℕ → List Value) (got : ℕ → Rounds) where
   abbrev n : ℕ
   n = plan.parties
@@ -212,7 +213,8 @@ module _ (plan : Gates) (valid : IsPlan plan) (outside : Outside) (plain : List 
       let is = is_gate (AndB x y) width found in
       and_right x y width (slice_index plain x) (slice_index plain y) found hears stands
       (fitting x width (AndB x y) found stands is.uses.0 is.fit.0) (fitting y width (AndB x y) found stands is.uses.1.0 is.fit.1.0)
-  vector_right _ width found hears stands vector = cc
+  vector_right kind width found hears stands vector =
+      let never = unkeyed_at plan g (record { kind = kind; width = width }) unkeyed found in cc
 
   -- ---- outputs
 

@@ -53,13 +53,14 @@ AreInputs plan owns inputs =
     slice_index inputs t.k ≡ number (get_or (own_at owns t.party).inputs t.k [])
 
 -- the values of a gate of so many parties recombine to a number: shares of a word sum to it modulo 2^64, shares of a
--- vector of the gate's width XOR to it, and who is told knows it
+-- vector of the gate's width XOR to it, and who is told knows it. What gates of keys give does not recombine yet
 abbrev pub RecombineBy : Given → Gate → ℕ → (ℕ → Value) → ℕ → Type 0
 RecombineBy Word gate n values x = sum_to n (λ p. word_share (values p)) % 2 ^ 64 ≡ x % 2 ^ 64
 RecombineBy Vector gate n values x =
     (xor_to n (λ p. vector_share (values p)) ≡ x) × ((p : ℕ) → p < n → vector_share (values p) < 2 ^ gate.width)
 RecombineBy plan.Told gate n values x =
     (p : ℕ) → p < n → values p ≡ Told (if tells p gate then Some x else None)
+RecombineBy _ gate n values x = ⊥
 
 abbrev pub Recombine : Gate → ℕ → (ℕ → Value) → ℕ → Type 0
 Recombine gate n values x = RecombineBy (gives gate.kind) gate n values x

@@ -150,7 +150,8 @@ conjunction h x y heard =
 
 -- ---- the equations
 
--- the value of a gate, from what the party has at hand and what it hears in all rounds
+-- the value of a gate, from what the party has at hand and what it hears in all rounds. Gates of keys have none yet, and
+-- send nothing
 abbrev pub gate_value : Kind → Hand → Rounds → Value
 gate_value (InA party k) h got = WordShare (if party == h.me then kept_word h k else word_in (got 0 party) 0)
 gate_value (ConstA c) h got = WordShare (part_of_public h.me c)
@@ -169,6 +170,7 @@ gate_value (SliceB x at) h got = VectorShare (vector h x / 2 ^ at % 2 ^ width h)
 gate_value (JoinB x y) h got = VectorShare (vector h x + 2 ^ width_at h.plan.gates x * vector h y)
 gate_value (AndB x y) h got = VectorShare (conjunction h x y (got 0))
 gate_value (OutB x to) h got = Told (if includes to h.me then Some (opened_vector h (vector h x) (got 0) 0) else None)
+gate_value _ h got = Told None
 
 -- what the party has to send at a gate: for each round in order, the payload by receiver
 abbrev pub gate_sends : Kind → Hand → Rounds → List Heard

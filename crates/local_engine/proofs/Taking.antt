@@ -1,9 +1,8 @@
 -- Each gate of a plan that takes an input takes it from the input's party, within the input's width.
-use Rattle.std.proofs.Common.{◌≡◌, ℕ, zero, suc, ◌+◌, ◌%◌, ◌<◌, Bool, true, false, cond, List, [], ◌∷◌, ◌++◌, length, take, Option, Some, None, refl, sym, ap, ◌∙◌, subst, arith}
-use Rattle.std.specs.Prelude.{slice_get, slice_index, IsSome}
+use Rattle.std.proofs.Common.{◌≡◌, ℕ, zero, suc, ◌+◌, ◌-◌, ◌*◌, ◌%◌, ◌<◌, Bool, true, false, cond, List, [], ◌∷◌, ◌++◌, length, take, Option, Some, None, refl, sym, ap, ◌∙◌, subst, arith}
+use Rattle.std.specs.Prelude.{slice_get, slice_index, sum, IsSome}
 use Rattle.std.specs.Option.{unwrap_or}
 use Rattle.std.proofs.lemmas.List.{length-append}
-use Rattle.share_types.specs.Sums.{each}
 use Rattle.share_types.specs.declared.sharing.Sharing.{Sharing}
 use Rattle.share_types.specs.declared.sharing.Sharing.TheVariants as sharing
 use Rattle.share_types.specs.declared.sharing.WireType.{WireType}
@@ -20,16 +19,15 @@ use Rattle.mixed_language.specs.Valid.{IsCircuit}
 use Rattle.mixed_language.specs.Table.{inputs_of, input_entry, owner_of}
 use Rattle.mot_base.proofs.Lists.{same_some}
 use Rattle.bristol_reader.specs.Circuit as bristol
-use Rattle.bristol_reader.specs.Circuit.{output_wires}
 use Rattle.bristol_reader.specs.Table as bristol_table
 use Rattle.bristol_reader.specs.declared.kind.BristolKind.{BristolKind}
 use Rattle.bristol_reader.specs.declared.kind.BristolKind.TheVariants as kind
 use Rattle.plan_gates.specs.Gate as plan
 use Rattle.plan_gates.specs.Gate.{Gate, InA, InB, gate_of}
 use Rattle.gate_plan.specs.declared.wire.Wire.{Wire}
-use Rattle.gate_plan.specs.Blocks.{Lowered, wire_among}
+use Rattle.gate_plan.specs.Blocks.{Lowered, wire_among, entered, anded, told, in_row}
 use Rattle.gate_plan.specs.Lowering.{Source, block_of, block_at, source_of, is_keys, wire_handled, width_handled, lowered_to}
-use Rattle.gate_plan.specs.Bristol.{bit_gate, input_gates, kind_gates, gates_made, wired_before, output_gates}
+use Rattle.gate_plan.specs.Bristol.{gates_of_end, gates_of_and, value_gates, input_gates, kind_gates, gates_made, wired_before, output_gates}
 use Rattle.gate_plan.proofs.BuiltLemmas.{handled_own}
 use Rattle.joint_run.specs.Honest.{Taken, taken_by}
 use Rattle.gate_tasks.specs.Stage.{taken_from}
@@ -70,6 +68,17 @@ record IsTaking (op : Operation) (v : Source) (gate : Gate) (t : Taken) : Type 0
 take_silent : (inputs : List Input) (gate : Gate) → taken_by gate.kind ≡ None → TakeOf inputs (gate ∷ [])
 take_silent inputs gate none = take_one inputs gate (λ t e. let contrary = sym none ∙ e in cc)
 
+-- gates that take no input
+take_two : (inputs : List Input) (g h : Gate) → taken_by g.kind ≡ None → taken_by h.kind ≡ None →
+    TakeOf inputs (g ∷ h ∷ [])
+take_two inputs g h one two =
+    take_both inputs (g ∷ []) (h ∷ []) (take_silent inputs g one) (take_silent inputs h two)
+
+take_three : (inputs : List Input) (g h i : Gate) → taken_by g.kind ≡ None → taken_by h.kind ≡ None →
+    taken_by i.kind ≡ None → TakeOf inputs (g ∷ h ∷ i ∷ [])
+take_three inputs g h i one two three =
+    take_both inputs (g ∷ []) (h ∷ i ∷ []) (take_silent inputs g one) (take_two inputs h i two three)
+
 taking : (inputs : List Input) (op : Operation) (keys : Bool) (v : Source) (n : ℕ) →
     ((gate : Gate) (t : Taken) → IsTaking op v gate t → TakesFrom inputs gate t) → TakeOf inputs (block_of op keys v n).gates
 taking inputs InputWord keys v n own =
@@ -88,6 +97,15 @@ taking inputs Output false v n own =
     either false = refl
 taking inputs ConstWord keys v n own = take_silent inputs _ refl
 taking inputs ConstBits false v n own = take_silent inputs _ refl
+taking inputs InputBits true v n own = take_two inputs _ _ refl refl
+taking inputs ConstBits true v n own = take_two inputs _ _ refl refl
+taking inputs Xor true v n own = take_two inputs _ _ refl refl
+taking inputs And true v n own = take_three inputs _ _ _ refl refl refl
+taking inputs Not true v n own = take_silent inputs _ refl
+taking inputs Slice true v n own = take_two inputs _ _ refl refl
+taking inputs Join true v n own = take_two inputs _ _ refl refl
+taking inputs Y2B keys v n own = take_silent inputs _ refl
+taking inputs Output true v n own = take_two inputs _ _ refl refl
 taking inputs Add keys v n own = take_silent inputs _ refl
 taking inputs Sub keys v n own = take_silent inputs _ refl
 taking inputs Mul keys v n own = take_silent inputs _ refl
@@ -201,71 +219,91 @@ mixed_plans_take_inputs c circuit built = take_before c circuit (length c.statem
 
 -- ---- circuits in Bristol Fashion
 
-take_each : (inputs : List Input) (n : ℕ) (f : ℕ → Gate) →
-    ((i : ℕ) → i < n → (t : Taken) → taken_by (f i).kind ≡ Some t → TakesFrom inputs (f i) t) → TakeOf inputs (each n f)
-take_each inputs zero f own = λ g gate t there e. cc
-take_each inputs (suc n) f own =
-    take_both inputs (each n f) (f n ∷ []) (take_each inputs n f (λ i h t e. own i (omega (arith, h)) t e))
-    (take_one inputs (f n) (λ t e. own n (omega arith) t e))
+take_row : (inputs : List Input) (count : ℕ) (f : ℕ → List Gate) →
+    ((i : ℕ) → i < count → TakeOf inputs (f i)) → TakeOf inputs (in_row count f)
+take_row inputs zero f own = λ g gate t there e. cc
+take_row inputs (suc n) f own =
+    take_both inputs (in_row n f) (f n) (take_row inputs n f (λ i h. own i (omega (arith, h)))) (own n (omega arith))
 
-take_inputs : (inputs : List Input) (parties k : ℕ) (widths : List ℕ) →
+-- a bit of an input value
+take_bit : (inputs : List Input) (keys : Bool) (n party k at : ℕ) →
+    ((t : Taken) → taken_by (InB party k at) ≡ Some t → TakesFrom inputs (gate_of (InB party k at) 1) t) →
+    TakeOf inputs (entered keys n 1 party k at).gates
+take_bit inputs false n party k at own = take_one inputs (gate_of (InB party k at) 1) own
+take_bit inputs true n party k at own = take_two inputs _ _ refl refl
+
+take_inputs : (inputs : List Input) (keys : Bool) (parties n k : ℕ) (widths : List ℕ) →
     ((i : ℕ) (x : Input) → slice_get (bristol_table.inputs_from parties k widths) i ≡ Some x →
     slice_get inputs (k + i) ≡ Some x) →
-    TakeOf inputs (input_gates parties k widths)
-take_inputs inputs parties k [] at = λ g gate t there e. cc
-take_inputs inputs parties k (w ∷ ws) at =
-    take_both inputs (each w (λ i. bit_gate (InB (k % parties) k i))) (input_gates parties (k + 1) ws)
-    (take_each inputs w (λ i. bit_gate (InB (k % parties) k i)) own)
-    (take_inputs inputs parties (k + 1) ws (λ i x there.
+    TakeOf inputs (input_gates keys parties n k widths)
+take_inputs inputs keys parties n k [] at = λ g gate t there e. cc
+take_inputs inputs keys parties n k (w ∷ ws) at =
+    take_both inputs (value_gates keys n (k % parties) k w) (input_gates keys parties (n + gates_of_end keys * w) (k + 1) ws)
+    (take_row inputs w (λ i. (entered keys (n + gates_of_end keys * i) 1 (k % parties) k i).gates)
+    (λ i h. take_bit inputs keys (n + gates_of_end keys * i) (k % parties) k i (own i h)))
+    (take_inputs inputs keys parties (n + gates_of_end keys * w) (k + 1) ws (λ i x there.
     let place : k + suc i ≡ k + 1 + i = omega arith in
     subst (λ (n : ℕ). slice_get inputs n ≡ Some x) place (at (suc i) x there)))
   where
     own : (i : ℕ) → i < w → (t : Taken) → taken_by (InB (k % parties) k i) ≡ Some t →
-        TakesFrom inputs (bit_gate (InB (k % parties) k i)) t
+        TakesFrom inputs (gate_of (InB (k % parties) k i) 1) t
     own i h t e =
         let entry : Input =
         record { name = bristol_table.input_name k; party = record { 0 = k % parties }; width = w } in
         let place : k + 0 ≡ k = omega arith in
         let found : slice_get inputs k ≡ Some entry =
         subst (λ (n : ℕ). slice_get inputs n ≡ Some entry) place (at 0 entry refl) in
-        subst (λ (u : Taken). TakesFrom inputs (bit_gate (InB (k % parties) k i)) u) (same_some _ t e)
+        subst (λ (u : Taken). TakesFrom inputs (gate_of (InB (k % parties) k i) 1) u) (same_some _ t e)
         (record { input = entry; there = found; party = refl; within = omega (arith, h) })
 
-take_kind : (inputs : List Input) (k : BristolKind) (x : ℕ → Wire) (word outs : ℕ) →
-    TakeOf inputs (kind_gates k x word outs)
-take_kind inputs kind.Xor x word outs = take_silent inputs _ refl
-take_kind inputs kind.And x word outs = take_silent inputs _ refl
-take_kind inputs kind.Inv x word outs = take_silent inputs _ refl
-take_kind inputs kind.Eq x word outs = take_silent inputs _ refl
-take_kind inputs kind.Eqw x word outs = λ g gate t there e. cc
-take_kind inputs kind.Mand x word outs =
-    take_each inputs outs (λ i. bit_gate (plan.AndB (x i).gate (x (outs + i)).gate)) (λ i h t e. cc)
+take_and : (inputs : List Input) (keys : Bool) (n : ℕ) (a b : Wire) → TakeOf inputs (anded keys n 1 a b).gates
+take_and inputs false n a b = take_silent inputs _ refl
+take_and inputs true n a b = take_three inputs _ _ _ refl refl refl
 
-take_made : (inputs : List Input) (before : Lowered) (o : Option bristol.Gate) → TakeOf inputs (gates_made before o)
-take_made inputs before None = λ g gate t there e. cc
-take_made inputs before (Some g) =
-    take_kind inputs g.kind (λ i. wire_among before.wires (slice_index g.ins i)) (slice_index g.ins 0) (length g.outs)
+take_kind : (inputs : List Input) (keys : Bool) (k : BristolKind) (x : ℕ → Wire) (word outs n : ℕ) →
+    TakeOf inputs (kind_gates keys k x word outs n)
+take_kind inputs false kind.Xor x word outs n = take_silent inputs _ refl
+take_kind inputs true kind.Xor x word outs n = take_two inputs _ _ refl refl
+take_kind inputs keys kind.And x word outs n = take_and inputs keys n (x 0) (x 1)
+take_kind inputs false kind.Inv x word outs n = take_silent inputs _ refl
+take_kind inputs true kind.Inv x word outs n = take_silent inputs _ refl
+take_kind inputs false kind.Eq x word outs n = take_silent inputs _ refl
+take_kind inputs true kind.Eq x word outs n = take_two inputs _ _ refl refl
+take_kind inputs keys kind.Eqw x word outs n = λ g gate t there e. cc
+take_kind inputs keys kind.Mand x word outs n =
+    take_row inputs outs (λ i. (anded keys (n + gates_of_and keys * i) 1 (x i) (x (outs + i))).gates)
+    (λ i h. take_and inputs keys (n + gates_of_and keys * i) (x i) (x (outs + i)))
 
-take_wired : (parties : ℕ) (c : bristol.Circuit) (n : ℕ) →
-    TakeOf (bristol_table.inputs_of parties c) (wired_before parties c n).gates
-take_wired parties c zero =
-    take_inputs (bristol_table.inputs_of parties c) parties 0 c.inputs (λ i x there.
+take_made : (inputs : List Input) (keys : Bool) (before : Lowered) (o : Option bristol.Gate) →
+    TakeOf inputs (gates_made keys before o)
+take_made inputs keys before None = λ g gate t there e. cc
+take_made inputs keys before (Some g) =
+    take_kind inputs keys g.kind (λ i. wire_among before.wires (slice_index g.ins i)) (slice_index g.ins 0) (length g.outs)
+    (length before.gates)
+
+take_wired : (keys : Bool) (parties : ℕ) (c : bristol.Circuit) (n : ℕ) →
+    TakeOf (bristol_table.inputs_of parties c) (wired_before keys parties c n).gates
+take_wired keys parties c zero =
+    take_inputs (bristol_table.inputs_of parties c) keys parties 0 0 c.inputs (λ i x there.
     let place : i ≡ 0 + i = omega arith in
     subst (λ (n : ℕ). slice_get (bristol_table.inputs_of parties c) n ≡ Some x) place there)
-take_wired parties c (suc n) =
-    let before = wired_before parties c n in
-    take_both (bristol_table.inputs_of parties c) before.gates (gates_made before (slice_get c.gates n))
-    (take_wired parties c n) (take_made (bristol_table.inputs_of parties c) before (slice_get c.gates n))
+take_wired keys parties c (suc n) =
+    let before = wired_before keys parties c n in
+    take_both (bristol_table.inputs_of parties c) before.gates (gates_made keys before (slice_get c.gates n))
+    (take_wired keys parties c n) (take_made (bristol_table.inputs_of parties c) keys before (slice_get c.gates n))
 
-take_outputs : (inputs : List Input) (wires : List Wire) (outs : List ℕ) → TakeOf inputs (output_gates wires outs)
-take_outputs inputs wires [] = λ g gate t there e. cc
-take_outputs inputs wires (w ∷ ws) =
-    take_both inputs (bit_gate (plan.OutB (wire_among wires w).gate All) ∷ []) (output_gates wires ws)
-    (take_silent inputs _ refl) (take_outputs inputs wires ws)
+take_output : (inputs : List Input) (keys : Bool) (n : ℕ) (a : Wire) → TakeOf inputs (told keys n 1 a All).gates
+take_output inputs false n a = take_silent inputs _ refl
+take_output inputs true n a = take_two inputs _ _ refl refl
 
 pub bristol_plans_take_inputs : BristolPlansTakeInputs
-bristol_plans_take_inputs parties c =
-    let v = wired_before parties c (length c.gates) in
-    take_both (bristol_table.inputs_of parties c) v.gates (output_gates v.wires (output_wires c))
-    (take_wired parties c (length c.gates))
-    (take_outputs (bristol_table.inputs_of parties c) v.wires (output_wires c))
+bristol_plans_take_inputs keys parties c =
+    let v = wired_before keys parties c (length c.gates) in
+    let from = c.wires - sum c.outputs in
+    take_both (bristol_table.inputs_of parties c) v.gates
+    (output_gates keys v.wires (length v.gates) from (sum c.outputs))
+    (take_wired keys parties c (length c.gates))
+    (take_row (bristol_table.inputs_of parties c) (sum c.outputs)
+    (λ j. (told keys (length v.gates + gates_of_end keys * j) 1 (wire_among v.wires (from + j)) All).gates)
+    (λ j h. take_output (bristol_table.inputs_of parties c) keys (length v.gates + gates_of_end keys * j)
+    (wire_among v.wires (from + j))))

@@ -1,5 +1,5 @@
 -- From whom the gates of a circuit's plan take their inputs.
-use Rattle.std.specs.Prelude.{ℕ, ◌≡◌, true}
+use Rattle.std.specs.Prelude.{ℕ, ◌≡◌, Bool, true}
 use Rattle.mixed_language.specs.Circuit as mixed
 use Rattle.mixed_language.specs.Valid.{IsCircuit}
 use Rattle.mixed_language.specs.Table as mixed_table
@@ -15,8 +15,8 @@ MixedPlansTakeInputs =
     (c : mixed.Circuit) → IsCircuit c → all_built c ≡ true →
     TakesInputs (mixed_table.inputs_of c.statements) (lowered c)
 
--- and so does that of a circuit in Bristol Fashion
+-- and so does that of a circuit in Bristol Fashion, as keys or by XOR
 abbrev pub BristolPlansTakeInputs : Type 0
 BristolPlansTakeInputs =
-    (parties : ℕ) (c : bristol.Circuit) →
-    TakesInputs (bristol_table.inputs_of parties c) (bristol_lowered parties c)
+    (keys : Bool) (parties : ℕ) (c : bristol.Circuit) →
+    TakesInputs (bristol_table.inputs_of parties c) (bristol_lowered keys parties c)

@@ -30,18 +30,18 @@ waited_few plan g p (Some round) is =
     let few = passing_few (λ from. is_some (message plan from p.0 g round)) plan.parties in
     omega (arith, same, few, is.most_parties)
 
-item_few : (plan : Gates) (i : Item) → IsPlan plan → length (loads_to plan i) ≤ 12
+item_few : (plan : Gates) (i : Item) → IsPlan plan → length (loads_to plan i) ≤ 13
 item_few plan i is =
     let split = length-append (wires_to plan i.gate i.party) (waited_for plan i.gate i.party (awaits plan i.party.0 i.gate i.stage)) in
     let same = length-map (operands_at plan.gates i.gate) (λ x. Wire x i.party) in
-    let two = few_of (kind_at plan.gates i.gate) in
-    omega (arith, split, same, two, waited_few plan i.gate i.party (awaits plan i.party.0 i.gate i.stage) is)
+    let three = few_of (kind_at plan.gates i.gate) in
+    omega (arith, split, same, three, waited_few plan i.gate i.party (awaits plan i.party.0 i.gate i.stage) is)
 
-at_few : (plan : Gates) (o : Option Item) → IsPlan plan → length (loads_at plan o) ≤ 12
+at_few : (plan : Gates) (o : Option Item) → IsPlan plan → length (loads_at plan o) ≤ 13
 at_few plan None is = omega arith
 at_few plan (Some i) is = item_few plan i is
 
-before_few : (plan : Gates) (items : List Item) (k : ℕ) → IsPlan plan → length (loads_before plan items k) ≤ 12 * k
+before_few : (plan : Gates) (items : List Item) (k : ℕ) → IsPlan plan → length (loads_before plan items k) ≤ 13 * k
 before_few plan items zero is = omega arith
 before_few plan items (suc k) is =
     let split = length-append (loads_before plan items k) (loads_at plan (slice_get items k)) in

@@ -1,5 +1,5 @@
 -- The edges that start at an item carry what its stage gives.
-use Rattle.std.proofs.Common.{◌≡◌, ℕ, zero, suc, ◌<◌, List, [], ◌∷◌, length, map, get_or, Option, Some, None, refl, sym, ap, ◌∙◌, subst, arith}
+use Rattle.std.proofs.Common.{◌≡◌, false, ℕ, zero, suc, ◌<◌, List, [], ◌∷◌, length, map, get_or, Option, Some, None, refl, sym, ap, ◌∙◌, subst, arith}
 use Rattle.std.specs.Prelude.{slice_get, is_some}
 use Rattle.std.specs.List.{AllByRecursion}
 use Rattle.std.proofs.lemmas.List.{length-map, get_or-map}
@@ -8,7 +8,7 @@ use Rattle.turn_core.specs.declared.edge.TheConstants.{OUTSIDE}
 use Rattle.turn_core.specs.Graph.{source, outgoing}
 use Rattle.turn_core.proofs.Listed.{edges_listed}
 use Rattle.task_pool.specs.Meanings.{AreMeanings, HasNoOutside}
-use Rattle.plan_gates.specs.Plan.{Gates, IsPlan}
+use Rattle.plan_gates.specs.Plan.{Gates, IsPlan, has_keys}
 use Rattle.plan_gates.specs.Messages.{rounds, awaits, message}
 use Rattle.plan_gates.proofs.MessageLemmas.{waits}
 use Rattle.gate_tasks.specs.declared.stage.StageOut.{StageOut}
@@ -127,19 +127,19 @@ comes_from plan k e i is there within from =
       same = some_is (giver plan load) i (sym found ∙ ap (slice_get (all_items plan)) number ∙ there);
     }
 
-module _ (plan : Gates) (owns : List Own) (count : length owns ≡ plan.parties) (k : ℕ) (i : Item) (is : IsPlan plan) (there : slice_get (all_items plan) k ≡ Some i) (given : StageOut) (run : HasRun plan owns i given) where
+module _ (plan : Gates) (owns : List Own) (count : length owns ≡ plan.parties) (k : ℕ) (i : Item) (is : IsPlan plan) (unkeyed : has_keys plan ≡ false) (there : slice_get (all_items plan) k ≡ Some i) (given : StageOut) (run : HasRun plan owns i given) where
   has_at : (e : ℕ) → e < length (all_edges plan) → source (graph_of plan) e ≡ k → HasCargoAt given (slice_get (all_loads plan) e)
   has_at e within from =
       let c = comes_from plan k e i is there within from in
       let joint = one_joint_run plan owns in
-      let here = has_cargo plan owns is count joint.0 c.load given joint.1 c.given c.real (subst (λ (j : Item). HasRun plan owns j given) (sym c.same) run) in
+      let here = has_cargo plan owns is unkeyed count joint.0 c.load given joint.1 c.given c.real (subst (λ (j : Item). HasRun plan owns j given) (sym c.same) run) in
       subst (λ o. HasCargoAt given o) (sym c.there) here
 
   means_at : (e : ℕ) (v : Cargo) → e < length (all_edges plan) → source (graph_of plan) e ≡ k → IsCargoAt given (slice_get (all_loads plan) e) v → edge_means plan owns e v
   means_at e v within from cargo =
       let c = comes_from plan k e i is there within from in
       let joint = one_joint_run plan owns in
-      let here = is_meant plan owns is count joint.0 c.load v given joint.1 c.given c.real (subst (λ (j : Item). HasRun plan owns j given) (sym c.same) run) (subst (λ o. IsCargoAt given o v) c.there cargo) in
+      let here = is_meant plan owns is unkeyed count joint.0 c.load v given joint.1 c.given c.real (subst (λ (j : Item). HasRun plan owns j given) (sym c.same) run) (subst (λ o. IsCargoAt given o v) c.there cargo) in
       subst (λ o. IsMeantAt plan owns o v) (sym c.there) here
 
   abbrev Leaves : ℕ → Type 0

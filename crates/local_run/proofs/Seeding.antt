@@ -1,5 +1,5 @@
 -- Runs whose parties have seeds that are derived from one seed are jobs, and honest with honest parts.
-use Rattle.std.proofs.Common.{◌≡◌, ℕ, zero, suc, ◌+◌, ◌<◌, ◌≤◌, Bool, cond, List, [], ◌∷◌, ◌++◌, length, map, take, get_or, Option, Some, None, refl, sym, ap, ◌∙◌, subst, arith}
+use Rattle.std.proofs.Common.{◌≡◌, false, ℕ, zero, suc, ◌+◌, ◌<◌, ◌≤◌, Bool, cond, List, [], ◌∷◌, ◌++◌, length, map, take, get_or, Option, Some, None, refl, sym, ap, ◌∙◌, subst, arith}
 use Rattle.std.specs.Prelude.{◌==◌, slice_get, slice_index, option_map, IfSome}
 use Rattle.std.proofs.lemmas.Bool.{eq-eqb}
 use Rattle.std.proofs.lemmas.List.{length-map, map-append}
@@ -16,7 +16,7 @@ use Rattle.circuit_tables.specs.Values.{HaveWidths, kept_of}
 use Rattle.mot_base.proofs.Lists.{same_some, take_next}
 use Rattle.dealer_files.specs.Part.{Part, counts_of}
 use Rattle.plan_gates.specs.Gate.{Kind, Gate, InA, InB, party_of}
-use Rattle.plan_gates.specs.Plan.{Gates, IsPlan}
+use Rattle.plan_gates.specs.Plan.{Gates, IsPlan, has_keys}
 use Rattle.plan_gates.specs.Needs.{all_needs}
 use Rattle.plan_gates.proofs.NeedsLemmas.{slice_get-each}
 use Rattle.joint_run.specs.declared.own.Own.{Own as OwnInMemory}
@@ -137,7 +137,7 @@ module _ (plan : Gates) (seed : List ℕ) (inputs : List Input) (values : List (
       let there = slice_get-get_or parts p no_part (omega (arith, h, many)) in
       (part, own_is owns parts p (own_of seed inputs values p) part (own_there p h) there)
 
-  module _ (valid : IsPlan plan) (takes : TakesInputs inputs plan) (widths : HaveWidths None inputs values) where
+  module _ (valid : IsPlan plan) (unkeyed : has_keys plan ≡ false) (takes : TakesInputs inputs plan) (widths : HaveWidths None inputs values) where
     wide : (k : ℕ) (input : Input) → slice_get inputs k ≡ Some input → length (get_or values k []) ≡ input.width
     wide k input there =
         let within = slice_get_within inputs k input there in
@@ -162,7 +162,7 @@ module _ (plan : Gates) (seed : List ℕ) (inputs : List Input) (values : List (
         number_there values t.k ∙ ap number (sym (ap (λ (o : Own). get_or o.inputs t.k []) one.1 ∙ kept))
 
     is_job : ServeAll plan parts → IsJob plan owns parts
-    is_job serve = record { owns_count = count; parts_count = many; each = each_party }
+    is_job serve = record { keyless = unkeyed; owns_count = count; parts_count = many; each = each_party }
       where
         each_party : (p : ℕ) (o : OwnInMemory) (part : Part) → slice_get owns p ≡ Some o →
             slice_get parts p ≡ Some part → ServeParty plan p o part
@@ -183,9 +183,9 @@ module _ (plan : Gates) (seed : List ℕ) (inputs : List Input) (values : List (
             })
 
 pub jobs_of_seed_serve : JobsOfSeedServe
-jobs_of_seed_serve plan seed inputs values parts valid takes widths serve = (
-  is_job plan seed inputs values parts serve.count valid takes widths serve,
-  are_inputs plan seed inputs values parts serve.count valid takes widths,
+jobs_of_seed_serve plan seed inputs values parts valid unkeyed takes widths serve = (
+  is_job plan seed inputs values parts serve.count valid unkeyed takes widths serve,
+  are_inputs plan seed inputs values parts serve.count valid unkeyed takes widths,
 )
 
 pub jobs_of_seed_are_honest : JobsOfSeedAreHonest

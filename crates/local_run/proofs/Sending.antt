@@ -7,7 +7,7 @@ use Rattle.mot_base.specs.declared.Party.{Party}
 use Rattle.message_demux.specs.Slots.{has_high_bits}
 use Rattle.plan_gates.specs.Gate.{Gate}
 use Rattle.plan_gates.specs.declared.message.Message.{Message as Sent}
-use Rattle.plan_gates.specs.Plan.{Gates, IsPlan}
+use Rattle.plan_gates.specs.Plan.{Gates, IsPlan, has_keys}
 use Rattle.plan_gates.specs.Messages.{hears, stages, rounds, heard_rounds, sent_in, message}
 use Rattle.plan_gates.proofs.MessageLemmas.{is_sent, awaits_heard}
 use Rattle.gate_tasks.specs.declared.value.Value.{Value as ValueInMemory}
@@ -91,7 +91,7 @@ out_found h got round to member sent =
 
 -- ---- in a joint run
 
-module _ (plan : Gates) (owns : List Own) (valid : IsPlan plan) (count : length owns ≡ plan.parties) where
+module _ (plan : Gates) (owns : List Own) (valid : IsPlan plan) (unkeyed : has_keys plan ≡ false) (count : length owns ≡ plan.parties) where
   pub sent_is : (table : Payloads) → IsJoint plan owns table → (g round from to : ℕ) → from < plan.parties →
       round_sends (slice_get plan.gates g) (place_in plan owns table from g) (column table from g) round to ≡ table g round from to
   sent_is table joint g round from to known =
@@ -191,8 +191,8 @@ module _ (plan : Gates) (owns : List Own) (valid : IsPlan plan) (count : length 
   is_meant table (Message g round from to) (cargo.Message bytes) given joint is real run here =
       let same : bytes ≡ table g round from.0 to.0 = payload_is table g round from to given bytes is.party joint run here in (
         shape_by bytes (message plan from.0 to.0 g round)
-            (ap length same ∙ payloads_have_their_lengths plan owns table count joint g round from.0 to.0)
-            (λ m there. ap (has_high_bits m.shape) same ∙ payloads_have_their_shapes plan owns table valid count joint g round from.0 to.0 m there),
+            (ap length same ∙ payloads_have_their_lengths plan owns table unkeyed count joint g round from.0 to.0)
+            (λ m there. ap (has_high_bits m.shape) same ∙ payloads_have_their_shapes plan owns table valid unkeyed count joint g round from.0 to.0 m there),
         λ other other_joint. payload_is other g round from to given bytes is.party other_joint run here,
       )
   is_meant table (Message g round from to) (cargo.Value v) given joint is real run here = absurd here

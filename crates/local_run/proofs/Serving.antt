@@ -27,7 +27,7 @@ use Rattle.mot_base.proofs.Lists.{same_some as some_is}
 -- ---- own data
 
 pub serves : (plan : Gates) (owns : List OwnInMemory) (parts : List Part) (p g : ℕ) (own : OwnInMemory) (part : Part) → IsJob plan owns parts → slice_get owns p ≡ Some own → slice_get parts p ≡ Some part → g < length plan.gates → Serves plan own part g
-serves plan owns parts p g own part job own_there part_there known = serves_gate plan p g own part (job.each p own part own_there part_there) known
+serves plan owns parts p g own part job own_there part_there known = serves_gate plan p g own part (job.each p own part own_there part_there) job.keyless known
 
 with_there : (owns : List OwnInMemory) (parts : List Part) (p : ℕ) (own : OwnInMemory) (part : Part) → slice_get owns p ≡ Some own → slice_get parts p ≡ Some part → slice_get (owns_with owns parts) p ≡ Some (own_with own part)
 with_there [] parts p own part a b = cc

@@ -1,10 +1,10 @@
 -- An item of a running run.
-use Rattle.std.proofs.Common.{◌≡◌, ℕ, ◌<◌, List, length, get_or, Some, sym, ◌∙◌, subst}
+use Rattle.std.proofs.Common.{◌≡◌, false, ℕ, ◌<◌, List, length, get_or, Some, sym, ◌∙◌, subst}
 use Rattle.std.specs.Prelude.{slice_get}
 use Rattle.std.specs.List.{AllByRecursion}
 use Rattle.turn_core.specs.Graph.{Graph, incoming, outgoing}
 use Rattle.task_pool.specs.Meanings.{AreMeanings, HasNoOutside, ends_of}
-use Rattle.plan_gates.specs.Plan.{Gates, IsPlan}
+use Rattle.plan_gates.specs.Plan.{Gates, IsPlan, has_keys}
 use Rattle.gate_tasks.specs.declared.stage.StageOut.{StageOut}
 use Rattle.joint_run.specs.Party.{Own}
 use Rattle.local_run.specs.declared.item.Item.{Item}
@@ -32,21 +32,21 @@ inputs_at plan owns dag k place vs ws is same less there are moved =
     let here = subst (λ (g : Graph). AreMeanings (edge_means plan owns) (incoming g k) vs) same are in
     subst (λ (xs : List Cargo). AreMeant plan owns (loads_to plan place) xs) (sym moved) (inputs_meant plan owns k place vs is less there here)
 
-pub outputs_have : (plan : Gates) (owns : List Own) (dag : Graph) (k : ℕ) (place : Item) (loads : List Load) (edges : List ℕ) (given : StageOut) → length owns ≡ plan.parties → IsPlan plan → dag ≡ graph_of plan → loads ≡ all_loads plan → edges ≡ outgoing dag k →
+pub outputs_have : (plan : Gates) (owns : List Own) (dag : Graph) (k : ℕ) (place : Item) (loads : List Load) (edges : List ℕ) (given : StageOut) → length owns ≡ plan.parties → IsPlan plan → has_keys plan ≡ false → dag ≡ graph_of plan → loads ≡ all_loads plan → edges ≡ outgoing dag k →
     slice_get (all_items plan) k ≡ Some place → HasRun plan owns place given → AllByRecursion (λ e. HasCargoAt given (slice_get loads e)) edges
-outputs_have plan owns dag k place loads edges given count is same are these there run =
-    let here = all_have plan owns count k place is there given run in
+outputs_have plan owns dag k place loads edges given count is unkeyed same are these there run =
+    let here = all_have plan owns count k place is unkeyed there given run in
     let one = subst (λ (g : Graph). AllByRecursion (λ e. HasCargoAt given (slice_get (all_loads plan) e)) (outgoing g k)) (sym same) here in
     let two = subst (λ (ls : List Load). AllByRecursion (λ e. HasCargoAt given (slice_get ls e)) (outgoing dag k)) (sym are) one in
     subst (λ (es : List ℕ). AllByRecursion (λ e. HasCargoAt given (slice_get loads e)) es) (sym these) two
 
-pub outputs_at : (plan : Gates) (owns : List Own) (dag : Graph) (k : ℕ) (place : Item) (loads : List Load) (edges : List ℕ) (given : StageOut) (vs : List Cargo) → length owns ≡ plan.parties → IsPlan plan → dag ≡ graph_of plan → loads ≡ all_loads plan → edges ≡ outgoing dag k →
+pub outputs_at : (plan : Gates) (owns : List Own) (dag : Graph) (k : ℕ) (place : Item) (loads : List Load) (edges : List ℕ) (given : StageOut) (vs : List Cargo) → length owns ≡ plan.parties → IsPlan plan → has_keys plan ≡ false → dag ≡ graph_of plan → loads ≡ all_loads plan → edges ≡ outgoing dag k →
     slice_get (all_items plan) k ≡ Some place → HasRun plan owns place given → AreMeanings (λ e c. IsCargoAt given (slice_get loads e) c) edges vs → AreMeanings (edge_means plan owns) (outgoing dag k) vs
-outputs_at plan owns dag k place loads edges given vs count is same are these there run mean =
+outputs_at plan owns dag k place loads edges given vs count is unkeyed same are these there run mean =
     let one = subst (λ (es : List ℕ). AreMeanings (λ e c. IsCargoAt given (slice_get loads e) c) es vs) these mean in
     let two = subst (λ (ls : List Load). AreMeanings (λ e c. IsCargoAt given (slice_get ls e) c) (outgoing dag k) vs) are one in
     let three = subst (λ (g : Graph). AreMeanings (λ e c. IsCargoAt given (slice_get (all_loads plan) e) c) (outgoing g k) vs) same two in
-    let four = outputs_mean plan owns count k place is there given run vs three in
+    let four = outputs_mean plan owns count k place is unkeyed there given run vs three in
     subst (λ (g : Graph). AreMeanings (edge_means plan owns) (outgoing g k) vs) (sym same) four
 
 -- ---- the whole run

@@ -1,5 +1,5 @@
 -- Runs whose parties have seeds that are derived from one seed.
-use Rattle.std.specs.Prelude.{ℕ, ◌≡◌, ◌≤◌, ◌==◌, Bool, List, length, map, slice_get, Some, None}
+use Rattle.std.specs.Prelude.{ℕ, ◌≡◌, ◌≤◌, ◌==◌, Bool, false, List, length, map, slice_get, Some, None}
 use Rattle.mot_base.specs.Tape.{derived_seed}
 use Rattle.share_types.specs.declared.needs.Kind.{Kind}
 use Rattle.share_types.specs.declared.needs.Needs.{Needs}
@@ -10,7 +10,7 @@ use Rattle.circuit_tables.specs.Table.{Input}
 use Rattle.circuit_tables.specs.Values.{HaveWidths, kept_of}
 use Rattle.dealer_files.specs.Part.{Part, counts_of}
 use Rattle.dealer_files.specs.Honest.{HonestTogether}
-use Rattle.plan_gates.specs.Plan.{Gates, IsPlan}
+use Rattle.plan_gates.specs.Plan.{Gates, IsPlan, has_keys}
 use Rattle.plan_gates.specs.Needs.{all_needs}
 use Rattle.joint_run.specs.declared.own.Own.{Own}
 use Rattle.joint_run.specs.Honest.{AreHonest, AreInputs}
@@ -53,12 +53,12 @@ HonestPartsServe =
     HonestTogether parts plan.parties id counts →
     ((kind : Kind) → count_of (all_needs plan) kind ≤ count_of counts kind) → ServeAll plan parts
 
--- with such parts it is a job of a plan that takes the inputs, and the plan's inputs are the numbers of all
+-- with such parts it is a job of a plan that takes the inputs and has no gates of keys, and the plan's inputs are the numbers of all
 -- values
 abbrev pub JobsOfSeedServe : Type 0
 JobsOfSeedServe =
     (plan : Gates) (seed : List ℕ) (inputs : List Input) (values : List (List Bool)) (parts : List Part) →
-    IsPlan plan → TakesInputs inputs plan → HaveWidths None inputs values → ServeAll plan parts →
+    IsPlan plan → has_keys plan ≡ false → TakesInputs inputs plan → HaveWidths None inputs values → ServeAll plan parts →
     let owns = owns_of seed plan.parties inputs values in
     IsJob plan owns parts × AreInputs plan (owns_with owns parts) (map number values)
 

@@ -17,7 +17,7 @@ impl LocalJob {
         ensures { (result ≡ true) ↔ IsJob self.now.plan self.now.owns.items parts.now }
     {
         let parties = usize::from(self.plan.parties());
-        if self.owns.len() != parties || parts.len() != parties {
+        if self.owns.len() != parties || parts.len() != parties || self.plan.has_keys() {
             return false;
         }
         serves_all(self, parts)

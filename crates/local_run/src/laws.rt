@@ -7,7 +7,7 @@ pub fn told_bits_are_those_of_outputs()
     ensures { ToldBitsAreThoseOfOutputs }
 {}
 
-/// Where a plan takes its inputs, a run from one seed is a job with parts that serve all parties, and honest where
+/// Where a plan without gates of keys takes its inputs, a run from one seed is a job with parts that serve all parties, and honest where
 /// the parts are. Honest parts with records enough serve all.
 pub fn jobs_of_seed_serve()
     ensures serve { JobsOfSeedServe }

@@ -25,24 +25,14 @@ use Rattle.gate_plan.specs.Bristol.{are_keys, all_bristol_gates, bristol_lowered
 use Rattle.local_run.specs.Inputs.{TakesInputs}
 use Rattle.local_engine.proofs.Taking.{mixed_plans_take_inputs, bristol_plans_take_inputs}
 
--- a circuit in Bristol Fashion is built where its wires are shared by XOR, and too many gates are told there
-pub unbuilt_keys : (s : Sharing) → (s ≡ share.Y) ↔ (not (are_keys s) ≡ false)
-unbuilt_keys share.A = ((λ e. cc), (λ e. cc))
-unbuilt_keys share.B = ((λ e. cc), (λ e. cc))
-unbuilt_keys share.Y = ((λ e. refl), (λ e. refl))
-
-pub told_by_xor : (s : Sharing) (c : Circuit) (Told : ℕ → Type 0) → s ≢ share.A →
-    ((gates : ℕ) → Told gates ↔ ((s ≡ share.B) × (most_gates < all_bristol_gates (are_keys s) c) × (gates ≡ all_bristol_gates (are_keys s) c))) →
-    (gates : ℕ) → Told gates ↔ ((not (are_keys s) ≡ true) × (most_gates < all_bristol_gates (are_keys s) c) × (gates ≡ all_bristol_gates (are_keys s) c))
-told_by_xor s c Told vectors tells gates = (
-  (λ h. let p = (tells gates).0 h in (ap (λ (k : Sharing). not (are_keys k)) p.0, p.1, p.2)),
-  (λ q. (tells gates).1 (by_xor s vectors q.0, q.1, q.2)),
-)
-  where
-    by_xor : (s : Sharing) → s ≢ share.A → not (are_keys s) ≡ true → s ≡ share.B
-    by_xor share.A other e = absurd (other refl)
-    by_xor share.B other e = refl
-    by_xor share.Y other e = cc
+-- too many gates of a circuit in Bristol Fashion are told by how its wires are shared
+pub told_by_words : (s : Sharing) (c : Circuit) (Told : ℕ → Type 0) →
+    ((gates : ℕ) → Told gates ↔ ((most_gates < all_bristol_gates (are_keys s) c) × (gates ≡ all_bristol_gates (are_keys s) c))) →
+    (gates : ℕ) → Told gates ↔
+    ((true ≡ true) × (most_gates < all_bristol_gates (are_keys s) c) × (gates ≡ all_bristol_gates (are_keys s) c))
+told_by_words s c Told tells gates =
+    let told = tells gates in
+    ((λ h. let p = told.0 h in (refl, p.0, p.1)), (λ q. told.1 (q.1, q.2)))
 
 -- the outputs of a mixed circuit have at most 64 bits each
 width_there : (all : List Statement) (at : ℕ) → AllWide all → width_at all at ≤ most_width
@@ -90,8 +80,8 @@ mixed_takes c (Ok plan) whole not_built is =
     built false e = (let no_error : Ok plan ≡ Err NotBuilt = not_built.1 e in cc)
 
 -- and so does that of one in Bristol Fashion
-pub bristol_takes : (parties : ℕ) (c : Circuit) (r : Result Gates PlanError) → IfOk r (λ plan. plan ≡ bristol_lowered parties c) →
+pub bristol_takes : (keys : Bool) (parties : ℕ) (c : Circuit) (r : Result Gates PlanError) → IfOk r (λ plan. plan ≡ bristol_lowered keys parties c) →
     IfOk r (λ plan. TakesInputs (bristol_inputs parties c) plan)
-bristol_takes parties c (Err e) is = tt
-bristol_takes parties c (Ok plan) is =
-    subst (λ (p : Gates). TakesInputs (bristol_inputs parties c) p) (sym is) (bristol_plans_take_inputs parties c)
+bristol_takes keys parties c (Err e) is = tt
+bristol_takes keys parties c (Ok plan) is =
+    subst (λ (p : Gates). TakesInputs (bristol_inputs parties c) p) (sym is) (bristol_plans_take_inputs keys parties c)

@@ -1,6 +1,6 @@
 -- What the words and the files of a call settle.
 use Rattle.std.proofs.Common.{ℕ, ◌≡◌, ◌<◌, ◌⊎◌, inl, inr, Bool, List, [], length, Option, Some, None, sym, ap, subst, ◌∙◌}
-use Rattle.std.specs.Prelude.{codes, map, false}
+use Rattle.std.specs.Prelude.{codes, map, true, false}
 use Rattle.mot_base.specs.Files.{Holding}
 use Rattle.mot_base.specs.Limits.{most_file_bytes}
 use Rattle.share_types.specs.Bits.{number}
@@ -25,7 +25,9 @@ use Rattle.bristol_reader.proofs.EvalLemmas.{same_outputs}
 use Rattle.bristol_reader.proofs.ReadCircuitLemmas.{reads_circuit}
 use Rattle.motion_cli.specs.declared.circuit.CircuitFault.{CircuitFault}
 use Rattle.motion_cli.specs.declared.circuit.CircuitFault.TheVariants as fault
-use Rattle.motion_cli.specs.Commands.{ReadsCircuit, ReadsInputs, Reports, LoadsBoth, HasTooMany, gates_refused, UnlessUnplanned, PlainReads, NeedsReads, DealEnds, LocalReads, LocalTexts, RequestEnds, request_files}
+use Rattle.plan_gates.specs.Plan.{has_keys}
+use Rattle.motion_cli.specs.Commands.{ReadsCircuit, ReadsInputs, Reports, LoadsBoth, HasTooMany, gates_refused, UnlessUnplanned, UnlessKeyed, PlainReads, PlainEnds, NeedsReads, NeedsEnds, DealEnds, LocalReads, LocalTexts, LocalEnds, RequestEnds, request_files}
+use Rattle.motion_cli.specs.Ending.{no_files}
 use Rattle.motion_cli.specs.Outcome.{Outcome, file_refused, circuit_refused, values_refused, reported, at_line, line}
 use Rattle.motion_cli.specs.Parts.{part_name, part_files, part_length, deal_files, deal_id, dealt_line}
 use Rattle.motion_cli.specs.Refusal.{circuit_cause, values_cause}
@@ -190,6 +192,15 @@ unplanned_fair name c P Q next =
     (circuit_refuses [] name (line (codes "not built")))
     (unless_fair [] (HasTooMany c) (gates_refused name c) P Q (gates_refuses name c) next)
 
+keyed_agree : (name : Text) (c : Circuit) (P Q : Outcome → Type 0) → Agree P Q → Agree (UnlessKeyed name c P) (UnlessKeyed name c Q)
+keyed_agree name c P Q next =
+    unless_agree (has_keys (plan_of c) ≡ true) (circuit_refused name (line (codes "not built"))) P Q next
+
+keyed_fair : (name : Text) (c : Circuit) (P Q : Outcome → Type 0) → Fair [] P Q → Fair [] (UnlessKeyed name c P) (UnlessKeyed name c Q)
+keyed_fair name c P Q next =
+    unless_fair [] (has_keys (plan_of c) ≡ true) (circuit_refused name (line (codes "not built"))) P Q
+    (circuit_refuses [] name (line (codes "not built"))) next
+
 needs_agree : (request : NeedsRequest) (circuit : Text) → Agree (NeedsReads request circuit) (NeedsReads request circuit)
 needs_agree request circuit = circuit_agree request.bristol request.circuit circuit _ _
     (λ c reads. unplanned_agree request.circuit c _ _ (says_agree (reported (needs_report (plan_of c)))))
@@ -202,17 +213,19 @@ local_agree : (request : LocalRequest) (values : Text) (c : Circuit) (files : Li
     Agree (LocalReads request values c files) (LocalReads request values c files)
 local_agree request values c files =
     unplanned_agree request.circuit c _ _
+    (keyed_agree request.circuit c _ _
     (inputs_agree request.values c values _ _
     (λ v. parts_agree request c files _ _
-    (λ parts. run_agree (AreSound request.dealer parts) c v (owns_in request c v parts))))
+    (λ parts. run_agree (AreSound request.dealer parts) c v (owns_in request c v parts)))))
 
 local_fair : (request : LocalRequest) (values : Text) (c : Circuit) (files : List Text) →
     Fair [] (LocalReads request values c files) (LocalReads request values c files)
 local_fair request values c files =
     unplanned_fair request.circuit c _ _
+    (keyed_fair request.circuit c _ _
     (inputs_fair request.values c values _ _
     (λ v. parts_fair request c files _ _
-    (λ parts. run_fair (AreSound request.dealer parts) c v (owns_in request c v parts))))
+    (λ parts. run_fair (AreSound request.dealer parts) c v (owns_in request c v parts)))))
 
 deal_agree : (told : Option Holding) (rose : Type 0) (r : DealRequest) → ¬ rose → Agree (DealEnds told rose r) (DealEnds told ⊥ r)
 deal_agree told rose r quiet =

@@ -22,7 +22,7 @@ use Rattle.dealer_files.specs.Part.{Part, counts_of}
 use Rattle.dealer_files.specs.Honest.{HonestTogether}
 use Rattle.dealer_maker.specs.Draws.{parts_drawn}
 use Rattle.dealer_maker.proofs.Honest.{honest}
-use Rattle.plan_gates.specs.Plan.{Gates, IsPlan}
+use Rattle.plan_gates.specs.Plan.{Gates, IsPlan, has_keys}
 use Rattle.plan_gates.specs.Plain.{Outside, only}
 use Rattle.plan_gates.specs.Needs.{all_needs}
 use Rattle.joint_run.specs.Party.{Own}
@@ -202,15 +202,15 @@ honest_all c seed v parts some serve (id, counts, together) =
 pub run_reported : (c : Circuit) (seed : List ℕ) (v : List (List Bool)) (parts : List Part) (owns : List Own)
     (reports : List PartyReport) (runs : List PartyRun) (text : Text) →
     owns ≡ owns_with (owns_of seed (parties_of c) (inputs_of c) v) parts →
-    IsWhole c → Keeps c (plan_of c) → IsPlan (plan_of c) → TakesInputs (inputs_of c) (plan_of c) →
-    HaveWidths None (inputs_of c) v → ServeAll (plan_of c) parts →
+    IsWhole c → Keeps c (plan_of c) → IsPlan (plan_of c) → has_keys (plan_of c) ≡ false →
+    TakesInputs (inputs_of c) (plan_of c) → HaveWidths None (inputs_of c) v → ServeAll (plan_of c) parts →
     ((table : Payloads) → IsJoint (plan_of c) owns table → AreReports (plan_of c) owns table reports) →
     ((bases : Needs) (session : ℕ) (outside : Outside) → AreHonest (plan_of c) owns bases session →
     AreInputs (plan_of c) owns outside.inputs → (p : ℕ) (report : PartyReport) → slice_get reports p ≡ Some report →
     map (λ (bits : Bits). bits.word) report.told ≡ plain_told (plan_of c) outside p) →
     AreRunsOf (outputs_of c) reports runs → text ≡ runs_report (notation_of c) runs →
     ReportsRun (AreHonestParts parts) c v owns (reported text)
-run_reported c seed v parts owns reports runs text owns_are whole keeps plan takes widths serve joint plain told text_is = (
+run_reported c seed v parts owns reports runs text owns_are whole keeps plan unkeyed takes widths serve joint plain told text_is = (
   runs,
   record { table = run.0; joint = run.1; reports = reports; reported = are; told = told },
   tell,
@@ -248,7 +248,7 @@ run_reported c seed v parts owns reports runs text owns_are whole keeps plan tak
         honest_owns = subst Honest plan_owns (honest_all c seed v parts some serve honest)
 
         inputs_owns : AreInputs (plan_of c) owns (map number v)
-        inputs_owns = subst Inputs plan_owns (jobs_of_seed_serve (plan_of c) seed (inputs_of c) v parts plan takes widths serve).1
+        inputs_owns = subst Inputs plan_owns (jobs_of_seed_serve (plan_of c) seed (inputs_of c) v parts plan unkeyed takes widths serve).1
 
         each : (p : ℕ) (one : PartyRun) → slice_get runs p ≡ Some one → one.outputs ≡ told_to p all.0
         each p one there =
@@ -265,9 +265,9 @@ run_reported c seed v parts owns reports runs text owns_are whole keeps plan tak
 -- a run from one seed is a job
 pub job_served : (plan asked : Gates) (seed : List ℕ) (inputs given : List Input) (v : List (List Bool)) (parts : List Part)
     (owns : List OwnInMemory) → asked ≡ plan → given ≡ inputs → owns ≡ owns_of seed plan.parties given v → IsPlan plan →
-    TakesInputs inputs plan → HaveWidths None inputs v → ServeAll plan parts → IsJob asked owns parts
-job_served plan asked seed inputs given v parts owns asked_is given_is owns_are valid takes widths serve =
-    let job = (jobs_of_seed_serve plan seed inputs v parts valid takes widths serve).0 in
+    has_keys plan ≡ false → TakesInputs inputs plan → HaveWidths None inputs v → ServeAll plan parts → IsJob asked owns parts
+job_served plan asked seed inputs given v parts owns asked_is given_is owns_are valid unkeyed takes widths serve =
+    let job = (jobs_of_seed_serve plan seed inputs v parts valid unkeyed takes widths serve).0 in
     let P : Gates → Type 0 = λ p. IsJob p owns parts in
     let Q : List OwnInMemory → Type 0 = λ os. IsJob plan os parts in
     subst P (sym asked_is) (subst Q (sym (owns_are ∙ ap (λ (is : List Input). owns_of seed plan.parties is v) given_is)) job)
@@ -295,34 +295,42 @@ pub some_parties : (c : Circuit) → IsWhole c → 1 ≤ parties_of c
 some_parties (Mixed c) whole = (let some = whole.some_parties in omega (arith, some))
 some_parties (InBristol b c) whole = (let some = whole.1 in omega (arith, some))
 
+unkeyed_plan : (c : Circuit) → has_keys (plan_of c) ≡ false → ¬ (has_keys (plan_of c) ≡ true)
+unkeyed_plan c unkeyed = λ e. (let no : false ≡ true = sym unkeyed ∙ e in cc)
+
 planned : (c : Circuit) → is_built c ≡ true → ¬ (is_built c ≡ false)
 planned c built = λ e. (let no : true ≡ false = sym built ∙ e in cc)
 
 -- `local` on a circuit that has a plan, and on values that are read, where the parts are not had
 pub no_parts : (request : LocalRequest) (values : Text) (c : Circuit) (files : List Text) (v : List (List Bool)) (end : Outcome) →
-    is_built c ≡ true → ¬ (HasTooMany c) → ReadsValues (inputs_of c) None values v →
+    is_built c ≡ true → ¬ (HasTooMany c) → has_keys (plan_of c) ≡ false → ReadsValues (inputs_of c) None values v →
     IsUntaken request.dealer c files end ⊎ (end ≡ memory) → LocalReads request values c files end ⊎ (end ≡ memory)
-no_parts request values c files v end built few reads (inl m) = inl (inr (planned c built, inr (few, inr (v, reads, inl m))))
-no_parts request values c files v end built few reads (inr m) = inr m
+no_parts request values c files v end built few unkeyed reads (inl m) =
+    inl (inr (planned c built, inr (few, inr (unkeyed_plan c unkeyed, inr (v, reads, inl m)))))
+no_parts request values c files v end built few unkeyed reads (inr m) = inr m
 
 -- and where it is run
 pub run_reads : (request : LocalRequest) (values : Text) (c : Circuit) (files : List Text) (v : List (List Bool)) (parts : List Part)
-    (end : Outcome) → IsWhole c → is_built c ≡ true → ¬ (HasTooMany c) → ReadsValues (inputs_of c) None values v →
+    (end : Outcome) → IsWhole c → is_built c ≡ true → ¬ (HasTooMany c) → has_keys (plan_of c) ≡ false →
+    ReadsValues (inputs_of c) None values v →
     AreTaken request.dealer request.seed c files parts → ReportsRun (AreHonestParts parts) c v (owns_in request c v parts) end →
     LocalReads request values c files end
-run_reads request values c files v parts end whole built few reads taken run =
+run_reads request values c files v parts end whole built few unkeyed reads taken run =
     let sound = taken_sound request.dealer request.seed c files parts (some_parties c whole) taken in
     inr (
       planned c built,
       inr (
         few,
         inr (
-          v,
-          reads,
+          unkeyed_plan c unkeyed,
           inr (
-            parts,
-            taken,
-            sound_run (AreSound request.dealer parts) (AreHonestParts parts) c v (owns_in request c v parts) end sound run,
+            v,
+            reads,
+            inr (
+              parts,
+              taken,
+              sound_run (AreSound request.dealer parts) (AreHonestParts parts) c v (owns_in request c v parts) end sound run,
+            ),
           ),
         ),
       ),

@@ -1,6 +1,6 @@
 -- A circuit as a command meets it: a mixed one, or one in Bristol Fashion, whose words say how its wires are shared and
 -- for how many parties.
-use Rattle.std.specs.Prelude.{ℕ, ◌≡◌, ◌≤◌, Bool, not, List, Option, Some, None}
+use Rattle.std.specs.Prelude.{ℕ, ◌≡◌, ◌≤◌, Bool, true, not, List, Option, Some, None}
 use Rattle.mot_base.specs.Limits.{least_parties, most_parties}
 use Rattle.cli_words.specs.Request.{Bristol, bristol_of}
 use Rattle.circuit_tables.specs.Table.{Input, Output, Told}
@@ -82,12 +82,12 @@ gates_of (InBristol b c) = all_bristol_gates (are_keys b.sharing) c
 -- whether its plan is built
 abbrev pub is_built : Circuit → Bool
 is_built (Mixed c) = all_built c
-is_built (InBristol b c) = not (are_keys b.sharing)
+is_built (InBristol b c) = true
 
 -- the plan of a circuit that is built
 abbrev pub plan_of : Circuit → Gates
 plan_of (Mixed c) = lowered c
-plan_of (InBristol b c) = bristol_lowered b.parties c
+plan_of (InBristol b c) = bristol_lowered (are_keys b.sharing) b.parties c
 
 -- a plan keeps the plain evaluation of a circuit
 abbrev pub Keeps : Circuit → Gates → Type 0

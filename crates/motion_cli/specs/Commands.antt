@@ -1,5 +1,5 @@
 -- What each command comes to: one composition of steps for each.
-use Rattle.std.specs.Prelude.{◌≡◌, ◌<◌, ◌++◌, Bool, false, List, [], codes, Option, None}
+use Rattle.std.specs.Prelude.{◌≡◌, ◌<◌, ◌++◌, Bool, true, false, List, [], codes, Option, None}
 use Rattle.mot_base.specs.Files.{Holding}
 use Rattle.mot_base.specs.Limits.{most_file_bytes, most_gates}
 use Rattle.std.specs.Fmt.{decimal}
@@ -9,6 +9,7 @@ use Rattle.circuit_tables.specs.Table.{Told}
 use Rattle.circuit_values.specs.Values as values
 use Rattle.text_lines.specs.Text.{Text}
 use Rattle.motion_cli.specs.declared.circuit.CircuitFault.{CircuitFault}
+use Rattle.plan_gates.specs.Plan.{has_keys}
 use Rattle.joint_run.specs.Party.{Own}
 use Rattle.motion_cli.specs.Circuits.{Circuit, Reads, FirstFault, inputs_of, parties_of, gates_of, is_built, plan_of, IsPlain, notation_of}
 use Rattle.motion_cli.specs.Dealer.{part_names, TakesParts}
@@ -61,6 +62,11 @@ UnlessUnplanned name c next =
     Unless (is_built c ≡ false) (circuit_refused name (line (codes "not built"))) (
     Unless (HasTooMany c) (gates_refused name c) next)
 
+-- a circuit whose plan has gates of keys, which are not run yet
+abbrev pub UnlessKeyed : Text → Circuit → (Outcome → Type 0) → Outcome → Type 0
+UnlessKeyed name c next =
+    Unless (has_keys (plan_of c) ≡ true) (circuit_refused name (line (codes "not built"))) next
+
 -- `plain`, once both files are loaded: too many gates are told before the values
 abbrev pub PlainReads : PlainRequest → Text → Text → Outcome → Type 0
 PlainReads request circuit values =
@@ -96,9 +102,10 @@ ReportsRun sound c v owns end =
 abbrev pub LocalReads : LocalRequest → Text → Circuit → List Text → Outcome → Type 0
 LocalReads request values c files =
     UnlessUnplanned request.circuit c (
+    UnlessKeyed request.circuit c (
     ReadsInputs request.values c values (λ v.
     TakesParts request c files (λ parts.
-    ReportsRun (AreSound request.dealer parts) c v (owns_in request c v parts))))
+    ReportsRun (AreSound request.dealer parts) c v (owns_in request c v parts)))))
 
 -- `local`, once circuit and values are loaded: the circuit says how many files of parts there are
 abbrev pub LocalTexts : Option Holding → Type 0 → LocalRequest → Text → Text → Outcome → Type 0

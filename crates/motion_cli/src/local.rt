@@ -1,6 +1,6 @@
 //! The command `local`: all parties of a circuit in one process.
 
-ghost use Rattle.std.specs.Prelude.{◌≡◌, ◌≤◌, ◌⊎◌, length, map, None, option_map, IfOk, IfErr, string_bytes};
+ghost use Rattle.std.specs.Prelude.{◌≡◌, ◌≤◌, ◌⊎◌, length, map, true, false, codes, None, option_map, OnOk, IfOk, IfErr, string_bytes};
 ghost use Rattle.mot_base.specs.Faults.{Rose};
 ghost use Rattle.mot_base.specs.Limits.{most_file_bytes};
 ghost use Rattle.cli_words.specs.Request.{local_request};
@@ -11,8 +11,9 @@ ghost use Rattle.motion_cli.specs.Circuits as any;
 ghost use Rattle.motion_cli.specs.Circuits.{circuit_of, inputs_of, parties_of, IsWhole, Keeps};
 ghost use Rattle.motion_cli.specs.Commands.{LocalReads, LocalTexts, LocalEnds, ReportsRun};
 ghost use Rattle.motion_cli.specs.Dealer.{part_names};
-ghost use Rattle.motion_cli.specs.Outcome.{memory, reported};
-ghost use Rattle.motion_cli.specs.Refusal.{came_to};
+ghost use Rattle.plan_gates.specs.Plan.{has_keys};
+ghost use Rattle.motion_cli.specs.Outcome.{line, memory, reported, circuit_refused};
+ghost use Rattle.motion_cli.specs.Refusal.{outcome_of, came_to};
 ghost use Rattle.motion_cli.specs.Run.{AreHonestParts, owns_in};
 
 use crate::circuit::Circuit;
@@ -91,6 +92,7 @@ fn run_circuit<'a>(
         ⊎ (came_to result ≡ memory) }
 {
     let plan = plan_of(alloc, words.circuit.as_str(), circuit)?;
+    judge_keys(words.circuit.as_str(), &plan)?;
     let values = values_of(alloc, words.values.as_str(), circuit, values)?;
     let taken = parts_of(
         alloc,
@@ -101,6 +103,18 @@ fn run_circuit<'a>(
     )?;
     drop(parts);
     Ok(run_and_report(alloc, words, circuit, plan, &values, taken.as_slice())?)
+}
+
+/// Refuses a plan with gates of keys, which are not run yet.
+fn judge_keys<'a>(name: &'a str, plan: &Plan) -> Result<(), Refusal<'a>>
+    ensures unkeyed { OnOk result (has_keys plan.now ≡ false) }
+    ensures err { IfErr result (λ refusal. (has_keys plan.now ≡ true)
+        × (outcome_of refusal ≡ circuit_refused name.entry.now (line (codes "not built")))) }
+{
+    if plan.has_keys() {
+        return Err(Refusal::NotBuilt { name });
+    }
+    Ok(())
 }
 
 /// Runs all parties, and reports what each is told and the digest of what it sent.
@@ -114,6 +128,7 @@ fn run_and_report(
 ) -> Result<String, NoMemory>
     requires whole { IsWhole (circuit_of circuit.now) }
     requires plan { plan ≡ any.plan_of (circuit_of circuit.now) }
+    requires unkeyed { has_keys plan ≡ false }
     requires keeps { Keeps (circuit_of circuit.now) plan }
     requires takes { TakesInputs (inputs_of (circuit_of circuit.now)) plan }
     requires widths { HaveWidths None (inputs_of (circuit_of circuit.now)) values.now }

@@ -181,7 +181,7 @@ module _ (b : Side) (inbox : InboxContents) (p : Progress) (g : ℕ) (task : Tas
             rw (wire_there x ne, said_there x ne) (scene.follows got extends x other at)
 
     scene_last : IsScene b inbox (after p g given (Some v))
-    scene_last = record { plan = scene.plan; inside = scene.inside; serves = scene.serves; slots = scene.slots; progress = last_progress; follows = last_follows }
+    scene_last = record { plan = scene.plan; unkeyed = scene.unkeyed; inside = scene.inside; serves = scene.serves; slots = scene.slots; progress = last_progress; follows = last_follows }
 
   module _ (is : given.value ≡ None) where
     -- the task at the gate, as it stands in the list
@@ -243,7 +243,7 @@ module _ (b : Side) (inbox : InboxContents) (p : Progress) (g : ℕ) (task : Tas
             rw (said_there x ne) (scene.follows got extends x other was)
 
     scene_early : IsScene b inbox (after p g given None)
-    scene_early = record { plan = scene.plan; inside = scene.inside; serves = scene.serves; slots = scene.slots; progress = early_progress; follows = early_follows }
+    scene_early = record { plan = scene.plan; unkeyed = scene.unkeyed; inside = scene.inside; serves = scene.serves; slots = scene.slots; progress = early_progress; follows = early_follows }
 
   -- a party goes by the equations when it has taken what a stage gave
   pub taken : IsScene b inbox (progress_after p g given)

@@ -1,12 +1,12 @@
 -- A party at work.
-use Rattle.std.specs.Prelude.{ℕ, ◌≡◌, ◌≢◌, ◌<◌, List, length, slice_get, Option, Some, None, option_map}
+use Rattle.std.specs.Prelude.{ℕ, false, ◌≡◌, ◌≢◌, ◌<◌, List, length, slice_get, Option, Some, None, option_map}
 use Rattle.std.specs.List.{All}
 use Rattle.std.specs.Option.{option_or}
 use Rattle.share_types.specs.Sums.{each}
 use Rattle.turn_core.specs.Graph.{Graph}
 use Rattle.turn_core.specs.declared.edge.TheConstants.{TERMINAL}
 use Rattle.message_demux.specs.Kept.{InboxContents}
-use Rattle.plan_gates.specs.Plan.{IsPlan}
+use Rattle.plan_gates.specs.Plan.{IsPlan, has_keys}
 use Rattle.plan_gates.specs.Messages.{awaits, AreSlotsTo}
 use Rattle.gate_tasks.specs.Serving.{ServeParty}
 use Rattle.gate_tasks.specs.Stage.{operands_at}
@@ -20,6 +20,7 @@ use Rattle.party_stages.specs.Following.{Side, me_of, Progress, IsProgress, Foll
 -- what a party brings fits the plan, its inbox expects the plan's messages to it, and it goes by the equations
 pub record IsScene (b : Side) (inbox : InboxContents) (p : Progress) : Type 0 where
   pub plan : IsPlan b.plan
+  pub unkeyed : has_keys b.plan ≡ false
   pub inside : me_of b < b.plan.parties
   pub serves : ServeParty b.plan (me_of b) b.own b.part
   pub slots : AreSlotsTo b.plan (me_of b) inbox.slots

@@ -7,12 +7,12 @@ use Rattle.std.proofs.lemmas.List.{length-append}
 use Rattle.std.proofs.lemmas.List.Folds.{list_any-append}
 use Rattle.std.proofs.lemmas.List.Elements.{filter-append}
 use Rattle.std.proofs.lemmas.Bool.{cases_lt, ltb-true}
-use Rattle.mot_base.specs.Limits.{most_width, most_payload_bytes}
+use Rattle.mot_base.specs.Limits.{most_parties, most_width, most_payload_bytes}
 use Rattle.share_types.specs.Sums.{each}
 use Rattle.message_demux.specs.Slots.{IsShapeOf, vector_bytes}
 use Rattle.mot_base.proofs.Lists.{same_some, take_next, inside_of, before_at, last_at}
 use Rattle.plan_gates.specs.declared.message.Message.{Message}
-use Rattle.plan_gates.specs.Gate.{Kind, Gate, InA, MulA, OutA, InB, AndB, OutB}
+use Rattle.plan_gates.specs.Gate.{Kind, Gate, InA, MulA, OutA, InB, AndB, OutB, InOnline, Garble}
 use Rattle.plan_gates.specs.declared.draft.Sizes.{Sizes}
 use Rattle.plan_gates.specs.Plan.{Gates, sizes_of}
 use Rattle.plan_gates.specs.Messages.{words, vectors, messages_of, messages_at, message, are_two, hears, rounds, awaits, sent_in}
@@ -55,6 +55,8 @@ same_rounds (OutA x to) sizes f t = refl
 same_rounds (InB party k at) sizes f t = refl
 same_rounds (AndB x y) sizes f t = refl
 same_rounds (OutB x to) sizes f t = refl
+same_rounds (InOnline party k at m) sizes f t = refl
+same_rounds (Garble u v m) sizes f t = refl
 same_rounds _ sizes f t = refl
 
 few_rounds : (kind : Kind) (sizes : Sizes) → length (messages_of kind sizes 0 0) ≤ 3
@@ -64,6 +66,8 @@ few_rounds (OutA x to) sizes = omega arith
 few_rounds (InB party k at) sizes = omega arith
 few_rounds (AndB x y) sizes = omega arith
 few_rounds (OutB x to) sizes = omega arith
+few_rounds (InOnline party k at m) sizes = omega arith
+few_rounds (Garble u v m) sizes = omega arith
 few_rounds _ sizes = omega arith
 
 pub rounds_are_few : (plan : Gates) (g : ℕ) → rounds plan g ≤ 3
@@ -245,29 +249,47 @@ pub record Fits (m : Message) : Type 0 where
 few_words : (count : ℕ) → 1 ≤ count → count ≤ 8192 → Fits (words count)
 few_words count some few = record { some = omega arith; most = omega arith; shape = tt }
 
+times_least : (a b : ℕ) → 1 ≤ a → 1 ≤ b → 1 ≤ a * b
+times_least (suc a) b h k = omega (arith, h, k)
+times_least zero b h k = absurd (omega (arith, h))
+
+times_most : (a b c : ℕ) → b ≤ c → a * b ≤ a * c
+times_most zero b c h = omega arith
+times_most (suc a) b c h =
+    let rest = times_most a b c h in let first = suc-mul a b in let second = suc-mul a c in omega arith
+
 few_vectors : (count width : ℕ) → 1 ≤ count → count ≤ 8192 → 1 ≤ width → width ≤ most_width → Fits (vectors count width)
 few_vectors count width some few wide narrow =
     let least : 1 ≤ vector_bytes width = omega arith in
     let most : vector_bytes width ≤ 8 = omega arith in
     record {
       some = times_least count (vector_bytes width) some least;
-      most = let top = times_most count (vector_bytes width) most in omega arith;
+      most = let top = times_most count (vector_bytes width) 8 most in omega arith;
       shape = (wide, narrow, refl);
     }
-  where
-    times_least : (a b : ℕ) → 1 ≤ a → 1 ≤ b → 1 ≤ a * b
-    times_least (suc a) b h k = omega (arith, h, k)
-    times_least zero b h k = absurd (omega (arith, h))
-
-    times_most : (a b : ℕ) → b ≤ 8 → a * b ≤ a * 8
-    times_most zero b h = omega arith
-    times_most (suc a) b h = let rest = times_most a b h in let one = suc-mul a b in omega arith
 
 one_entry : (b : Bool) (given m : Message) (round : ℕ) → Fits given →
     unwrap_or (slice_get (cond b (Some given) None ∷ []) round) None ≡ Some m → Fits m
 one_entry true given m zero fits e = subst Fits (same_some given m e) fits
 one_entry false given m zero fits e = cc
 one_entry b given m (suc round) fits e = cc
+
+-- one of three
+three_entries : (a b : Bool) (first second third m : Message) (round : ℕ) → Fits first → Fits second → Fits third →
+    unwrap_or (slice_get (cond a (Some first) None ∷ cond b (Some second) None ∷ Some third ∷ []) round) None ≡ Some m → Fits m
+three_entries true b first second third m zero f g h e = subst Fits (same_some first m e) f
+three_entries false b first second third m zero f g h e = cc
+three_entries a true first second third m (suc zero) f g h e = subst Fits (same_some second m e) g
+three_entries a false first second third m (suc zero) f g h e = cc
+three_entries a b first second third m (suc (suc zero)) f g h e = subst Fits (same_some third m e) h
+three_entries a b first second third m (suc (suc (suc round))) f g h e = cc
+
+-- a table has at most 4,096 words
+few_keys : (parties width : ℕ) → 1 ≤ parties → parties ≤ most_parties → 1 ≤ width → width ≤ most_width →
+    Fits (words (8 * parties * width))
+few_keys parties width some_parties few some most =
+    few_words (8 * parties * width) (times_least (8 * parties) width (omega arith) some)
+    (let top = times_most (8 * parties) width most_width most in omega arith)
 
 abbrev no_messages : List (Option Message)
 no_messages = []
@@ -276,22 +298,34 @@ nothing_there : (m : Message) (round : ℕ) → unwrap_or (slice_get no_messages
 nothing_there m zero e = cc
 nothing_there m (suc round) e = cc
 
-kind_fits : (kind : Kind) (sizes : Sizes) (f t r : ℕ) (m : Message) → 1 ≤ sizes.width → sizes.width ≤ most_width →
+kind_fits : (kind : Kind) (sizes : Sizes) (f t r : ℕ) (m : Message) → 1 ≤ sizes.parties → sizes.parties ≤ most_parties →
+    1 ≤ sizes.width → sizes.width ≤ most_width →
     unwrap_or (slice_get (messages_of kind sizes f t) r) None ≡ Some m → Fits m
-kind_fits (InA party k) sizes f t r m some most e = one_entry _ (words 1) m r (few_words 1 (omega arith) (omega arith)) e
-kind_fits (MulA x y) sizes f t r m some most e = one_entry true (words 2) m r (few_words 2 (omega arith) (omega arith)) e
-kind_fits (OutA x to) sizes f t r m some most e = one_entry _ (words 1) m r (few_words 1 (omega arith) (omega arith)) e
-kind_fits (InB party k at) sizes f t r m some most e =
+kind_fits (InA party k) sizes f t r m parties few some most e = one_entry _ (words 1) m r (few_words 1 (omega arith) (omega arith)) e
+kind_fits (MulA x y) sizes f t r m parties few some most e = one_entry true (words 2) m r (few_words 2 (omega arith) (omega arith)) e
+kind_fits (OutA x to) sizes f t r m parties few some most e = one_entry _ (words 1) m r (few_words 1 (omega arith) (omega arith)) e
+kind_fits (InB party k at) sizes f t r m parties few some most e =
     one_entry _ (vectors 1 sizes.width) m r (few_vectors 1 sizes.width (omega arith) (omega arith) some most) e
-kind_fits (AndB x y) sizes f t r m some most e =
+kind_fits (AndB x y) sizes f t r m parties few some most e =
     one_entry true (vectors 2 sizes.width) m r (few_vectors 2 sizes.width (omega arith) (omega arith) some most) e
-kind_fits (OutB x to) sizes f t r m some most e =
+kind_fits (OutB x to) sizes f t r m parties few some most e =
     one_entry _ (vectors 1 sizes.width) m r (few_vectors 1 sizes.width (omega arith) (omega arith) some most) e
-kind_fits _ sizes f t r m some most e = nothing_there m r e
+kind_fits (InOnline party k at n) sizes f t r m parties few some most e =
+    three_entries _ _ (vectors 1 sizes.width) (vectors 1 sizes.width) (words (2 * sizes.width)) m r
+    (few_vectors 1 sizes.width (omega arith) (omega arith) some most)
+    (few_vectors 1 sizes.width (omega arith) (omega arith) some most)
+    (few_words (2 * sizes.width) (omega arith) (omega arith)) e
+kind_fits (Garble u v n) sizes f t r m parties few some most e =
+    three_entries true true (vectors 2 sizes.width) (vectors 1 sizes.width) (words (8 * sizes.parties * sizes.width)) m r
+    (few_vectors 2 sizes.width (omega arith) (omega arith) some most)
+    (few_vectors 1 sizes.width (omega arith) (omega arith) some most)
+    (few_keys sizes.parties sizes.width parties few some most) e
+kind_fits _ sizes f t r m parties few some most e = nothing_there m r e
 
-pub gate_fits : (plan : Gates) (gate : Gate) (f t r : ℕ) (m : Message) → 1 ≤ gate.width → gate.width ≤ most_width →
+pub gate_fits : (plan : Gates) (gate : Gate) (f t r : ℕ) (m : Message) → 1 ≤ plan.parties → plan.parties ≤ most_parties →
+    1 ≤ gate.width → gate.width ≤ most_width →
     unwrap_or (slice_get (messages_at plan (Some gate) f t) r) None ≡ Some m → Fits m
-gate_fits plan gate f t r m some most e = kind_fits gate.kind (sizes_of plan gate) f t r m some most e
+gate_fits plan gate f t r m parties few some most e = kind_fits gate.kind (sizes_of plan gate) f t r m parties few some most e
 
 -- ---- output gates, one after another
 

@@ -48,6 +48,8 @@ none-most most = record { mult = omega arith; bit = omega arith; shared = omega 
 gate-most : (kind : plan.Kind) (sizes : Sizes) → sizes.width ≤ most_width → AreAtMost (needs_of kind sizes) most_width
 gate-most (plan.MulA x y) sizes h = record { mult = omega arith; bit = omega arith; shared = omega arith; key = omega arith }
 gate-most (plan.AndB x y) sizes h = record { mult = omega arith; bit = h; shared = omega arith; key = omega arith }
+gate-most plan.KeyMask sizes h = record { mult = omega arith; bit = omega arith; shared = omega arith; key = h }
+gate-most (plan.Garble u v m) sizes h = record { mult = omega arith; bit = h; shared = omega arith; key = h }
 gate-most _ sizes h = none-most most_width
 
 sum-most : (n m : Needs) (a b : ℕ) → AreAtMost n a → AreAtMost m b → AreAtMost (sum_of_needs n m) (a + b)

@@ -282,7 +282,8 @@ message_fits plan valid from to g round m e =
     fits None there e = cc
     fits (Some gate) there e =
         let is = valid.each g gate there in
-        gate_fits plan gate from to round m is.some_width is.in_width e
+        let some = valid.some_parties in
+        gate_fits plan gate from to round m (omega arith) valid.most_parties is.some_width is.in_width e
 
 tied : (o : Ordering) → is_eq o ≡ true → o ≡ Equal
 tied Less t = cc

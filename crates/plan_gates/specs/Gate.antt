@@ -1,12 +1,13 @@
 -- Gates of a plan: what each does, and how wide its value is.
-use Rattle.std.specs.Prelude.{ℕ, List, [], ◌∷◌, map, Option, Some, None, slice_get, option_map}
+use Rattle.std.specs.Prelude.{ℕ, Bool, true, false, List, [], ◌∷◌, map, Option, Some, None, slice_get, option_map}
 use Rattle.std.specs.Option.{unwrap_or}
 use Rattle.share_types.specs.declared.receiver.Receiver.{Receiver}
 use Rattle.share_types.specs.Wires.{party_told}
 use Rattle.plan_gates.specs.declared.gate.GateKind.{GateKind}
 use Rattle.plan_gates.specs.declared.gate.GateKind.TheVariants as code
 
--- what a gate does. x and y are the numbers of earlier gates, k that of an input of the circuit
+-- what a gate does. x, y, u, v, m, o and t are the numbers of earlier gates, k that of an input of the circuit. A wire
+-- that is shared as keys has two gates: one gives the mask of its bits, and one the masked bits with a key for each
 pub data Kind : Type 0 where
   InA : (party k : ℕ) → Kind
   ConstA : (c : ℕ) → Kind
@@ -24,6 +25,20 @@ pub data Kind : Type 0 where
   JoinB : (x y : ℕ) → Kind
   AndB : (x y : ℕ) → Kind
   OutB : (x : ℕ) (to : Receiver) → Kind
+  KeyMask : Kind
+  ConstMask : (c : ℕ) → Kind
+  XorMask : (u v : ℕ) → Kind
+  FlipMask : (u c : ℕ) → Kind
+  SliceMask : (u at : ℕ) → Kind
+  JoinMask : (u v : ℕ) → Kind
+  InOnline : (party k at m : ℕ) → Kind
+  ZeroOnline : Kind
+  XorOnline : (u v : ℕ) → Kind
+  SliceOnline : (u at : ℕ) → Kind
+  JoinOnline : (u v : ℕ) → Kind
+  Garble : (u v m : ℕ) → Kind
+  EvalY : (t u v : ℕ) → Kind
+  YToB : (m o : ℕ) → Kind
 
 -- a gate: what it does, and the width of its value. An output gate has the width of its operand
 pub record Gate : Type 0 where
@@ -51,6 +66,20 @@ kind_of (code.SliceB x at width) = SliceB x at
 kind_of (code.JoinB x y) = JoinB x y
 kind_of (code.AndB x y) = AndB x y
 kind_of (code.OutB x to) = OutB x to
+kind_of (code.KeyMask width) = KeyMask
+kind_of (code.ConstMask c) = ConstMask c.word
+kind_of (code.XorMask u v) = XorMask u v
+kind_of (code.FlipMask u c) = FlipMask u c.word
+kind_of (code.SliceMask u at width) = SliceMask u at
+kind_of (code.JoinMask u v) = JoinMask u v
+kind_of (code.InOnline party k at m) = InOnline party.0 k at m
+kind_of (code.ZeroOnline width) = ZeroOnline
+kind_of (code.XorOnline u v) = XorOnline u v
+kind_of (code.SliceOnline u at width) = SliceOnline u at
+kind_of (code.JoinOnline u v) = JoinOnline u v
+kind_of (code.Garble u v m) = Garble u v m
+kind_of (code.EvalY t u v) = EvalY t u v
+kind_of (code.YToB m o) = YToB m o
 
 -- the width that a kind states, if it states one
 abbrev pub stated_width : GateKind → Option ℕ
@@ -58,13 +87,23 @@ stated_width (code.InB party k at width) = Some width
 stated_width (code.ConstB c) = Some c.width
 stated_width (code.XorConstB x c) = Some c.width
 stated_width (code.SliceB x at width) = Some width
+stated_width (code.KeyMask width) = Some width
+stated_width (code.ConstMask c) = Some c.width
+stated_width (code.FlipMask u c) = Some c.width
+stated_width (code.SliceMask u at width) = Some width
+stated_width (code.ZeroOnline width) = Some width
+stated_width (code.SliceOnline u at width) = Some width
 stated_width _ = None
 
--- what a gate gives: a word that is shared by sum, a vector that is shared by XOR, or a number that is told
+-- what a gate gives: a word that is shared by sum, a vector that is shared by XOR, a number that is told, the mask or the
+-- masked bits of a wire that is shared as keys, or a garbled table
 pub data Given : Type 0 where
   Word : Given
   Vector : Given
   Told : Given
+  Mask : Given
+  Online : Given
+  Table : Given
 
 abbrev pub gives : Kind → Given
 gives (InA party k) = Word
@@ -83,6 +122,38 @@ gives (SliceB x at) = Vector
 gives (JoinB x y) = Vector
 gives (AndB x y) = Vector
 gives (OutB x to) = Told
+gives KeyMask = Mask
+gives (ConstMask c) = Mask
+gives (XorMask u v) = Mask
+gives (FlipMask u c) = Mask
+gives (SliceMask u at) = Mask
+gives (JoinMask u v) = Mask
+gives (InOnline party k at m) = Online
+gives ZeroOnline = Online
+gives (XorOnline u v) = Online
+gives (SliceOnline u at) = Online
+gives (JoinOnline u v) = Online
+gives (Garble u v m) = Table
+gives (EvalY t u v) = Online
+gives (YToB m o) = Vector
+
+-- whether a gate is one of those that wires shared as keys have
+abbrev pub is_of_keys : Kind → Bool
+is_of_keys KeyMask = true
+is_of_keys (ConstMask c) = true
+is_of_keys (XorMask u v) = true
+is_of_keys (FlipMask u c) = true
+is_of_keys (SliceMask u at) = true
+is_of_keys (JoinMask u v) = true
+is_of_keys (InOnline party k at m) = true
+is_of_keys ZeroOnline = true
+is_of_keys (XorOnline u v) = true
+is_of_keys (SliceOnline u at) = true
+is_of_keys (JoinOnline u v) = true
+is_of_keys (Garble u v m) = true
+is_of_keys (EvalY t u v) = true
+is_of_keys (YToB m o) = true
+is_of_keys _ = false
 
 -- an operand of a gate: what it is, and the number of the gate that gives it
 pub record Use : Type 0 where
@@ -94,6 +165,15 @@ word x = record { given = Word; gate = x }
 
 abbrev pub vector : ℕ → Use
 vector x = record { given = Vector; gate = x }
+
+abbrev pub mask : ℕ → Use
+mask x = record { given = Mask; gate = x }
+
+abbrev pub online : ℕ → Use
+online x = record { given = Online; gate = x }
+
+abbrev pub table : ℕ → Use
+table x = record { given = Table; gate = x }
 
 -- the operands of a gate, in order
 abbrev pub uses : Kind → List Use
@@ -113,6 +193,20 @@ uses (SliceB x at) = vector x ∷ []
 uses (JoinB x y) = vector x ∷ vector y ∷ []
 uses (AndB x y) = vector x ∷ vector y ∷ []
 uses (OutB x to) = vector x ∷ []
+uses KeyMask = []
+uses (ConstMask c) = []
+uses (XorMask u v) = mask u ∷ mask v ∷ []
+uses (FlipMask u c) = mask u ∷ []
+uses (SliceMask u at) = mask u ∷ []
+uses (JoinMask u v) = mask u ∷ mask v ∷ []
+uses (InOnline party k at m) = mask m ∷ []
+uses ZeroOnline = []
+uses (XorOnline u v) = online u ∷ online v ∷ []
+uses (SliceOnline u at) = online u ∷ []
+uses (JoinOnline u v) = online u ∷ online v ∷ []
+uses (Garble u v m) = mask u ∷ mask v ∷ mask m ∷ []
+uses (EvalY t u v) = table t ∷ online u ∷ online v ∷ []
+uses (YToB m o) = mask m ∷ online o ∷ []
 
 -- the gates of the operands, in order
 abbrev pub operands : Kind → List ℕ
@@ -124,6 +218,7 @@ party_of (InA party k) = Some party
 party_of (InB party k at) = Some party
 party_of (OutA x to) = party_told to
 party_of (OutB x to) = party_told to
+party_of (InOnline party k at m) = Some party
 party_of _ = None
 
 -- who is told the value of a gate, if it is an output
@@ -139,6 +234,8 @@ constant_of (AddConstA x c) = c
 constant_of (MulConstA x c) = c
 constant_of (ConstB c) = c
 constant_of (XorConstB x c) = c
+constant_of (ConstMask c) = c
+constant_of (FlipMask u c) = c
 constant_of _ = 0
 
 -- the width of the value of the gate at a place, and 0 where there is none

@@ -9,7 +9,7 @@ use Rattle.message_demux.specs.declared.slots.SlotSpec.{SlotSpec}
 use Rattle.message_demux.specs.declared.slots.Shape.TheVariants.{Words, Vectors}
 use Rattle.message_demux.specs.Slots.{listed, slot_at, vector_bytes, IsSlotList}
 use Rattle.plan_gates.specs.declared.message.Message.{Message}
-use Rattle.plan_gates.specs.Gate.{Kind, Gate, InA, MulA, OutA, InB, AndB, OutB, receiver_of}
+use Rattle.plan_gates.specs.Gate.{Kind, Gate, InA, MulA, OutA, InB, AndB, OutB, InOnline, Garble, receiver_of}
 use Rattle.plan_gates.specs.declared.draft.Sizes.{Sizes}
 use Rattle.plan_gates.specs.Plan.{Gates, sizes_of}
 
@@ -19,6 +19,20 @@ words count = record { len = 8 * count; shape = Words }
 
 abbrev pub vectors : ℕ → ℕ → Message
 vectors count width = record { len = count * vector_bytes width; shape = Vectors count width }
+
+-- an entry of a width: each other party tells the owner its share of the mask, the owner tells the masked bits, and each
+-- party its active keys, of 16 bytes for each bit
+abbrev pub entry_messages : ℕ → ℕ → ℕ → ℕ → List (Option Message)
+entry_messages party width from to =
+    (if to == party then Some (vectors 1 width) else None)
+    ∷ (if from == party then Some (vectors 1 width) else None)
+    ∷ Some (words (2 * width)) ∷ []
+
+-- a garbled table among so many parties: the opened bits of a product, the product's, and the share of the table, which
+-- has 16 bytes for each bit, row and owner
+abbrev pub table_messages : ℕ → ℕ → List (Option Message)
+table_messages parties width =
+    Some (vectors 2 width) ∷ Some (vectors 1 width) ∷ Some (words (8 * parties * width)) ∷ []
 
 -- what one party sends another at a gate, in each round in order, of which there are at most three; in a round without a
 -- message, none
@@ -30,6 +44,8 @@ messages_of (InB party k at) sizes from to = (if from == party then Some (vector
 messages_of (AndB x y) sizes from to = Some (vectors 2 sizes.width) ∷ []
 messages_of (OutB x receiver) sizes from to =
     (if includes receiver to then Some (vectors 1 sizes.width) else None) ∷ []
+messages_of (InOnline party k at m) sizes from to = entry_messages party sizes.width from to
+messages_of (Garble u v m) sizes from to = table_messages sizes.parties sizes.width
 messages_of _ sizes from to = []
 
 abbrev pub messages_at : Gates → Option Gate → ℕ → ℕ → List (Option Message)

@@ -1,9 +1,11 @@
--- What a plan computes in plain: one number for each gate.
+-- What a plan computes in plain: one number for each gate. A wire that is shared as keys has two gates, and its number is
+-- the XOR of theirs: a mask has the bits that were set or flipped, and 0 where it is fresh, and masked bits have what was
+-- entered or computed.
 use Rattle.std.specs.Prelude.{ℕ, zero, suc, ◌+◌, ◌*◌, ◌/◌, ◌%◌, ◌^◌, Bool, List, [], ◌∷◌, ◌++◌, length, slice_get, slice_index, Option, Some, None, bit_and, bit_xor}
 use Rattle.share_types.specs.declared.receiver.Receiver.{Receiver}
 use Rattle.share_types.specs.Bits.{bits}
 use Rattle.share_types.specs.Sums.{word_difference}
-use Rattle.plan_gates.specs.Gate.{Kind, Gate, InA, ConstA, AddA, SubA, AddConstA, MulConstA, MulA, OutA, InB, ConstB, XorB, XorConstB, SliceB, JoinB, AndB, OutB, operands, receiver_of, low_width}
+use Rattle.plan_gates.specs.Gate.{Kind, Gate, InA, ConstA, AddA, SubA, AddConstA, MulConstA, MulA, OutA, InB, ConstB, XorB, XorConstB, SliceB, JoinB, AndB, OutB, KeyMask, ConstMask, XorMask, FlipMask, SliceMask, JoinMask, InOnline, ZeroOnline, XorOnline, SliceOnline, JoinOnline, Garble, EvalY, YToB, operands, receiver_of, low_width}
 use Rattle.plan_gates.specs.Plan.{Gates}
 
 -- what comes from outside: the numbers of the circuit's inputs, and of a value of which each party enters a part of its
@@ -17,13 +19,16 @@ abbrev pub only : List ℕ → Outside
 only inputs = record { inputs = inputs; parts = λ party g. 0 }
 
 -- what the number of a gate is made of: what comes from outside, the numbers of its operands in order, of which there
--- are three at most, and the width of the first
+-- are three at most, the width of the first, and, where that is a garbled table, the numbers of the two masks of which it
+-- is made
 pub record Seen : Type 0 where
   pub outside : Outside
   pub x : ℕ
   pub y : ℕ
   pub z : ℕ
   pub low : ℕ
+  pub left : ℕ
+  pub right : ℕ
 
 -- the number of a gate, before it is cut to the gate's width
 abbrev pub number_of : Kind → Seen → ℕ
@@ -43,11 +48,34 @@ number_of (SliceB x at) v = v.x / 2 ^ at
 number_of (JoinB x y) v = v.x + 2 ^ v.low * v.y
 number_of (AndB x y) v = bit_and v.x v.y
 number_of (OutB x to) v = v.x
+number_of KeyMask v = 0
+number_of (ConstMask c) v = c
+number_of (XorMask x y) v = bit_xor v.x v.y
+number_of (FlipMask x c) v = bit_xor v.x c
+number_of (SliceMask x at) v = v.x / 2 ^ at
+number_of (JoinMask x y) v = v.x + 2 ^ v.low * v.y
+number_of (InOnline party k at m) v = slice_index v.outside.inputs k / 2 ^ at
+number_of ZeroOnline v = 0
+number_of (XorOnline x y) v = bit_xor v.x v.y
+number_of (SliceOnline x at) v = v.x / 2 ^ at
+number_of (JoinOnline x y) v = v.x + 2 ^ v.low * v.y
+number_of (Garble x y m) v = 0
+number_of (EvalY t x y) v = bit_and (bit_xor v.y v.left) (bit_xor v.z v.right)
+number_of (YToB m o) v = bit_xor v.x v.y
 
 -- the number of the gate at the place of an operand, if there is one
 abbrev pub operand_number : List ℕ → Option ℕ → ℕ
 operand_number before None = 0
 operand_number before (Some x) = slice_index before x
+
+-- the operands of a gate's first operand
+abbrev pub operands_there : Option Gate → List ℕ
+operands_there None = []
+operands_there (Some gate) = operands gate.kind
+
+abbrev pub operands_behind : List Gate → Option ℕ → List ℕ
+operands_behind gates None = []
+operands_behind gates (Some x) = operands_there (slice_get gates x)
 
 abbrev pub seen_of : List Gate → Outside → List ℕ → Kind → Seen
 seen_of gates outside before kind = record {
@@ -56,6 +84,8 @@ seen_of gates outside before kind = record {
   y = operand_number before (slice_get (operands kind) 1);
   z = operand_number before (slice_get (operands kind) 2);
   low = low_width gates kind;
+  left = operand_number before (slice_get (operands_behind gates (slice_get (operands kind) 0)) 0);
+  right = operand_number before (slice_get (operands_behind gates (slice_get (operands kind) 0)) 1);
 }
 
 -- the number of a gate, from those of the gates before it

@@ -1,12 +1,13 @@
-ghost use Rattle.std.specs.Prelude.{◌≡◌, None, slice_get};
-ghost use Rattle.plan_gates.specs.Gate.{kind_of, operands, receiver_of};
+ghost use Rattle.std.specs.Prelude.{◌≡◌, Some, None, slice_get};
+ghost use Rattle.plan_gates.specs.Gate.{kind_of, operands, receiver_of, is_of_keys};
 ghost use Rattle.plan_gates.specs.Operands.{listed};
 
 use mot_base::Party;
 use share_types::{Bits, Receiver};
 
-/// What a gate does. `x` and `y` are the numbers of earlier gates, `k` is the number of an input of the circuit, and
-/// the `at` of `InB` is the first bit of that input's value. Each gate gives one value.
+/// What a gate does. `x`, `y`, `u`, `v`, `m`, `o` and `t` are the numbers of earlier gates, `k` is the number of an input
+/// of the circuit, and the `at` of `InB` and `InOnline` is the first bit of that input's value. Each gate gives one value.
+/// A wire that is shared as keys has two gates, one for the mask and one for the masked bits with their keys.
 #[derive(Clone, Copy, Debug, PartialEq, Eq)]
 pub enum GateKind {
     /// An input of a party, shared by sum.
@@ -90,6 +91,80 @@ pub enum GateKind {
         x: u32,
         to: Receiver,
     },
+    /// A fresh mask, which needs a key record for each bit.
+    KeyMask {
+        width: u8,
+    },
+    /// The mask of a constant: its bits.
+    ConstMask {
+        c: Bits,
+    },
+    /// The XOR of two masks.
+    XorMask {
+        u: u32,
+        v: u32,
+    },
+    /// A mask of which the bits of a constant are flipped. Its masked bits are those of `u`.
+    FlipMask {
+        u: u32,
+        c: Bits,
+    },
+    /// The `width` bits of a mask from bit `at` on.
+    SliceMask {
+        u: u32,
+        at: u8,
+        width: u8,
+    },
+    /// The bits of the mask `u` below those of `v`.
+    JoinMask {
+        u: u32,
+        v: u32,
+    },
+    /// Bits of an input of a party behind the mask `m`, with a key for each.
+    InOnline {
+        party: Party,
+        k: u32,
+        at: u32,
+        m: u32,
+    },
+    /// The masked bits of a constant: zeros.
+    ZeroOnline {
+        width: u8,
+    },
+    /// The XOR of masked bits.
+    XorOnline {
+        u: u32,
+        v: u32,
+    },
+    /// The `width` masked bits from bit `at` on.
+    SliceOnline {
+        u: u32,
+        at: u8,
+        width: u8,
+    },
+    /// The masked bits of `u` below those of `v`.
+    JoinOnline {
+        u: u32,
+        v: u32,
+    },
+    /// The garbled table of an AND of two wires with the masks `u` and `v`, whose result has the mask `m`. It needs a bit
+    /// triple and a key record for each bit.
+    Garble {
+        u: u32,
+        v: u32,
+        m: u32,
+    },
+    /// The masked bits of the result of the table `t`, from those of both wires.
+    EvalY {
+        t: u32,
+        u: u32,
+        v: u32,
+    },
+    /// The wire with the mask `m` and the masked bits `o`, shared by XOR.
+    YToB {
+        m: u32,
+        o: u32,
+    },
 }
 
 /// The operands of a gate in order, of which there are at most three.
@@ -113,16 +188,30 @@ impl GateKind {
             | GateKind::XorB { x, y }
             | GateKind::JoinB { x, y }
             | GateKind::AndB { x, y } => first_two(Some(x), Some(y)),
+            GateKind::XorMask { u, v }
+            | GateKind::JoinMask { u, v }
+            | GateKind::XorOnline { u, v }
+            | GateKind::JoinOnline { u, v } => first_two(Some(u), Some(v)),
+            GateKind::YToB { m, o } => first_two(Some(m), Some(o)),
+            GateKind::Garble { u, v, m } => three(u, v, m),
+            GateKind::EvalY { t, u, v } => three(t, u, v),
             GateKind::AddConstA { x, .. }
             | GateKind::MulConstA { x, .. }
             | GateKind::OutA { x, .. }
             | GateKind::XorConstB { x, .. }
             | GateKind::SliceB { x, .. }
             | GateKind::OutB { x, .. } => first_two(Some(x), None),
+            GateKind::FlipMask { u, .. }
+            | GateKind::SliceMask { u, .. }
+            | GateKind::SliceOnline { u, .. } => first_two(Some(u), None),
+            GateKind::InOnline { m, .. } => first_two(Some(m), None),
             GateKind::InA { .. }
             | GateKind::ConstA { .. }
             | GateKind::InB { .. }
-            | GateKind::ConstB { .. } => first_two(None, None),
+            | GateKind::ConstB { .. }
+            | GateKind::KeyMask { .. }
+            | GateKind::ConstMask { .. }
+            | GateKind::ZeroOnline { .. } => first_two(None, None),
         }
     }
 
@@ -134,6 +223,40 @@ impl GateKind {
             GateKind::OutA { to, .. } | GateKind::OutB { to, .. } => Some(to),
             _ => None,
         }
+    }
+
+    /// Whether a gate is one of those that wires shared as keys have.
+    pub fn is_of_keys(self) -> bool
+        ensures { result ≡ is_of_keys (kind_of self) }
+    {
+        match self {
+            GateKind::KeyMask { .. }
+            | GateKind::ConstMask { .. }
+            | GateKind::XorMask { .. }
+            | GateKind::FlipMask { .. }
+            | GateKind::SliceMask { .. }
+            | GateKind::JoinMask { .. }
+            | GateKind::InOnline { .. }
+            | GateKind::ZeroOnline { .. }
+            | GateKind::XorOnline { .. }
+            | GateKind::SliceOnline { .. }
+            | GateKind::JoinOnline { .. }
+            | GateKind::Garble { .. }
+            | GateKind::EvalY { .. }
+            | GateKind::YToB { .. } => true,
+            _ => false,
+        }
+    }
+}
+
+/// Three operands.
+fn three(first: u32, second: u32, third: u32) -> Operands
+    ensures { result ≡ record { first = Some first; second = Some second; third = Some third } }
+{
+    Operands {
+        first: Some(first),
+        second: Some(second),
+        third: Some(third),
     }
 }
 

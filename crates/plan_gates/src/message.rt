@@ -1,8 +1,8 @@
-ghost use Rattle.std.specs.Prelude.{◌≡◌, ◌≤◌, None, length, slice_get};
+ghost use Rattle.std.specs.Prelude.{◌≡◌, ◌<◌, ◌≤◌, ◌^◌, None, length, slice_get};
 ghost use Rattle.std.specs.Option.{unwrap_or};
 ghost use Rattle.mot_base.specs.Limits.{most_width};
 ghost use Rattle.plan_gates.specs.Gate.{kind_of, receiver_of};
-ghost use Rattle.plan_gates.specs.Messages.{words, vectors, messages_of, tells_by};
+ghost use Rattle.plan_gates.specs.Messages.{words, vectors, entry_messages, table_messages, messages_of, tells_by};
 
 use crate::draft::Sizes;
 use crate::gate::GateKind;
@@ -17,11 +17,12 @@ pub struct Message {
 }
 
 /// So many words of 8 bytes.
-fn words(count: u16) -> Message
+fn words(count: u32) -> Message
+    requires { count < 2 ^ 24 }
     ensures { result ≡ words count }
 {
     Message {
-        len: 8 * u32::from(count),
+        len: 8 * count,
         shape: Shape::Words,
     }
 }
@@ -58,6 +59,7 @@ pub fn rounds_of(kind: GateKind, sizes: Sizes) -> u8
         | GateKind::InB { .. }
         | GateKind::AndB { .. }
         | GateKind::OutB { .. } => 1,
+        GateKind::InOnline { .. } | GateKind::Garble { .. } => 3,
         _ => 0,
     }
 }
@@ -72,17 +74,10 @@ pub fn message_in(
 ) -> Option<Message>
     ensures { result ≡ unwrap_or (slice_get (messages_of (kind_of kind) sizes from.0 to.0) round) None }
 {
-    match round {
-        0 => first_message(kind, sizes, from, to),
-        _ => None,
-    }
-}
-
-/// What one party sends another in the first round of a gate, if it sends something.
-fn first_message(kind: GateKind, sizes: Sizes, from: Party, to: Party) -> Option<Message>
-    ensures { result ≡ unwrap_or (slice_get (messages_of (kind_of kind) sizes from.0 to.0) 0) None }
-{
     match kind {
+        GateKind::InOnline { party, .. } => entry_message(party, sizes.width, from, to, round),
+        GateKind::Garble { .. } => table_message(sizes, round),
+        _ if round > 0 => None,
         GateKind::InA { party, .. } if from == party => Some(words(1)),
         GateKind::MulA { .. } => Some(words(2)),
         GateKind::OutA { to: receiver, .. } if receiver.includes(to) => Some(words(1)),
@@ -91,6 +86,30 @@ fn first_message(kind: GateKind, sizes: Sizes, from: Party, to: Party) -> Option
         GateKind::OutB { to: receiver, .. } if receiver.includes(to) => {
             Some(vectors(1, sizes.width))
         }
+        _ => None,
+    }
+}
+
+/// What one party sends another in a round of an entry of so many bits by a party.
+fn entry_message(party: Party, width: u8, from: Party, to: Party, round: u8) -> Option<Message>
+    ensures { result ≡ unwrap_or (slice_get (entry_messages party.0 width from.0 to.0) round) None }
+{
+    match round {
+        0 if to == party => Some(vectors(1, width)),
+        1 if from == party => Some(vectors(1, width)),
+        2 => Some(words(2 * u32::from(width))),
+        _ => None,
+    }
+}
+
+/// What one party sends another in a round of a garbled table.
+fn table_message(sizes: Sizes, round: u8) -> Option<Message>
+    ensures { result ≡ unwrap_or (slice_get (table_messages sizes.parties sizes.width) round) None }
+{
+    match round {
+        0 => Some(vectors(2, sizes.width)),
+        1 => Some(vectors(1, sizes.width)),
+        2 => Some(words(8 * u32::from(sizes.parties) * u32::from(sizes.width))),
         _ => None,
     }
 }

@@ -1,4 +1,5 @@
 ghost use Rattle.std.specs.Prelude.{◌≡◌};
+ghost use Rattle.share_types.specs.Needs.{no_needs};
 ghost use Rattle.plan_gates.specs.Gate.{kind_of};
 ghost use Rattle.plan_gates.specs.Needs.{needs_of};
 
@@ -19,6 +20,23 @@ pub fn needs_of(kind: GateKind, sizes: Sizes) -> Needs
             bit: u32::from(sizes.width),
             ..Needs::none()
         },
+        GateKind::KeyMask { .. } => Needs {
+            key: u32::from(sizes.width),
+            ..Needs::none()
+        },
+        GateKind::Garble { .. } => table_needs(sizes),
         _ => Needs::none(),
+    }
+}
+
+/// What a garbled table needs.
+fn table_needs(sizes: Sizes) -> Needs
+    ensures { result ≡ record no_needs { bit = sizes.width; key = sizes.width } }
+{
+    let bits = u32::from(sizes.width);
+    Needs {
+        bit: bits,
+        key: bits,
+        ..Needs::none()
     }
 }

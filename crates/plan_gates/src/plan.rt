@@ -1,6 +1,6 @@
 ghost use Rattle.std.specs.Prelude.{◌≡◌, ◌<◌, ◌≤◌, length, slice_get, option_map, Some, IfOk, IfSome};
 ghost use Rattle.plan_gates.specs.Gate.{kind_of, stated_width};
-ghost use Rattle.plan_gates.specs.Plan.{IsPlan};
+ghost use Rattle.plan_gates.specs.Plan.{IsPlan, has_keys};
 ghost use Rattle.plan_gates.specs.Needs.{needs_at, offset, offsets_of, all_needs};
 
 use crate::draft::Draft;
@@ -77,6 +77,18 @@ impl Plan {
         ensures { option_map (λ g. g.width) (slice_get self.now.gates gate) ≡ Some result }
     {
         self.draft.width(gate)
+    }
+
+    /// Whether some gate is one of those that wires shared as keys have. It looks at each gate.
+    pub fn has_keys(&self) -> bool
+        ensures { result ≡ has_keys self.now }
+    {
+        for gate in 0..self.gates() {
+            if self.gate(gate).is_of_keys() {
+                return true;
+            }
+        }
+        false
     }
 
     /// How many correlations all gates need.

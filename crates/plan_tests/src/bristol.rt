@@ -241,14 +241,19 @@ static COUNTS: [(&[u8], u64, u64); 9] = [
     (b"0 1\n1 1\n0\n", 1, 2),
 ];
 
-/// Whether a circuit has so many gates by XOR and as keys, and is not lowered to keys yet.
+/// Whether a circuit has so many gates by XOR and as keys.
 fn has_counts(alloc: Global, circuit: &Bristol, bits: u64, keys: u64) -> bool {
     lowered_bristol_gates(circuit, Sharing::B) == bits
         && lowered_bristol_gates(circuit, Sharing::Y) == keys
-        && matches!(
-            lower_bristol(alloc, circuit, 2, Sharing::Y),
-            Err(PlanError::NotBuilt)
-        )
+        && is_lowered_to(alloc, circuit, keys)
+}
+
+/// Whether a circuit is lowered to so many gates of keys.
+fn is_lowered_to(alloc: Global, circuit: &Bristol, keys: u64) -> bool {
+    match lower_bristol(alloc, circuit, 2, Sharing::Y) {
+        Ok(plan) => u64::from(plan.gates()) == keys,
+        Err(_) => false,
+    }
 }
 
 fn is_counted(alloc: Global, text: &[u8], bits: u64, keys: u64) -> bool {

@@ -4,4 +4,6 @@
 #[cfg(test)]
 mod bristol;
 #[cfg(test)]
+mod keys;
+#[cfg(test)]
 mod plans;

@@ -275,11 +275,7 @@ static COUNTS: [(&[u8], u64, bool); 11] = [
         11,
         false,
     ),
-    (
-        b"mixed 1\nparties 3\nx = input 0 Y 7\ny = y2b x\n",
-        3,
-        false,
-    ),
+    (b"mixed 1\nparties 3\nx = input 0 Y 7\ny = y2b x\n", 3, true),
     (
         b"mixed 1\nparties 3\nx = input 0 B 7\ny = b2a x\n",
         2,
@@ -293,12 +289,12 @@ static COUNTS: [(&[u8], u64, bool); 11] = [
     (
         b"mixed 1\nparties 3\nx = input 0 Y 7\ny = not x\nz = and x y\n",
         6,
-        false,
+        true,
     ),
     (
         b"mixed 1\nparties 3\nx = const Y 7 1\ny = xor x x\nz = slice x 1 2\nw = join x z\n",
         8,
-        false,
+        true,
     ),
 ];
 

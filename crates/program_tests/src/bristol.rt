@@ -134,8 +134,8 @@ static ROWS: [Row; 14] = [
         words: &["needs", "c", "--as", "Y", "--parties", "2"],
         circuit: AND,
         values: "",
-        printed: "circuit c: not built\n",
-        status: 2,
+        printed: "gates 9\nmult 0\nbit 1\nshared 0\nkey 4\n",
+        status: 0,
     },
     Row {
         words: &["local", "c", "v", SEED, "--as", "Y", "--parties", "2"],

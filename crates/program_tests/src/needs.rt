@@ -25,9 +25,9 @@ static NEEDS: [(&str, &str, u8); 7] = [
         0,
     ),
     (
-        "mixed 1\nparties 2\nx = input 0 Y 8\n",
-        "circuit c: not built\n",
-        2,
+        "mixed 1\nparties 2\nx = input 0 Y 1\nn = not x\noutput n all\n",
+        "gates 5\nmult 0\nbit 0\nshared 0\nkey 1\n",
+        0,
     ),
     (
         "mixed 1\nparties 2\nx = input 0 B 8\ny = b2a x\n",

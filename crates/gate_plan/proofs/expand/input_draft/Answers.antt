@@ -9,8 +9,8 @@ push_value-requires c =
     let test = c.loop-k-test.true in
     let h : c.loop-k.k < length widths = omega arith in
     record {
-      room = value_room c.args.parties widths c.loop-k.draft c.loop-k.k c.input_width.result h c.requires.few
-          c.loop-k.invariant c.input_width.ensures;
+      room = value_room c.args.keys c.args.parties widths c.loop-k.draft c.loop-k.k h c.loop-k.invariant
+          c.input_width.result c.requires.few c.input_width.ensures;
     }
 
 pub loop-k-preserved : goal.loop-k-preserved
@@ -19,6 +19,6 @@ loop-k-preserved c =
     let count = c.input_count-k-end.ensures in
     let test = c.loop-k-test.true in
     let h : c.loop-k.k < length widths = omega arith in
-    value_next c.args.parties widths c.loop-k.draft c.push_value.new.draft c.loop-k.k _ c.input_width.result
-    h c.loop-k.invariant
-    (ap (λ (n : ℕ). c.loop-k.k % n) c.from.ensures) c.input_width.ensures c.in_ok-push_value.ensures
+    value_next c.args.keys c.args.parties widths c.loop-k.draft c.loop-k.k h c.loop-k.invariant c.push_value.new.draft _
+    c.input_width.result (ap (λ (n : ℕ). c.loop-k.k % n) c.from.ensures) c.input_width.ensures
+    c.in_ok-push_value.ensures

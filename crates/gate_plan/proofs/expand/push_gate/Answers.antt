@@ -11,7 +11,7 @@ push_kind-requires-clause-constant c =
     gate_parts circuit.gates c.args.at c.kind-kind.result c.ins-ins.result.now c.outs-outs.result.now
     c.kind-kind.ensures c.ins-ins.ensures c.outs-outs.ensures in
     constant_small circuit c.args.at _
-    (fits c.args.draft.now.parties circuit c.args.at c.args.draft.now c.args.wires.now _
+    (fits c.args.keys c.args.draft.now.parties circuit c.args.at c.args.draft.now c.args.wires.now _
     c.requires.circuit c.requires.few there c.requires.before c.requires.wires)
 
 pub push_kind-requires-clause-room : goal.push_kind-requires-clause-room
@@ -20,7 +20,7 @@ push_kind-requires-clause-room c =
     let there =
     gate_parts circuit.gates c.args.at c.kind-kind.result c.ins-ins.result.now c.outs-outs.result.now
     c.kind-kind.ensures c.ins-ins.ensures c.outs-outs.ensures in
-    room c.args.draft.now.parties circuit c.args.at c.args.draft.now c.args.wires.now _ c.requires.circuit
+    room c.args.keys c.args.draft.now.parties circuit c.args.at c.args.draft.now c.args.wires.now _ c.requires.circuit
     c.requires.few there c.requires.before c.requires.wires
 
 pub rewire-requires-clause-range : goal.rewire-requires-clause-range
@@ -29,7 +29,7 @@ rewire-requires-clause-range c =
     let there =
     gate_parts circuit.gates c.args.at c.kind-kind.result c.ins-ins.result.now c.outs-outs.result.now
     c.kind-kind.ensures c.ins-ins.ensures c.outs-outs.ensures in
-    range c.args.draft.now.parties circuit c.args.at c.args.draft.now c.args.wires.now _ c.requires.circuit
+    range c.args.keys c.args.draft.now.parties circuit c.args.at c.args.draft.now c.args.wires.now _ c.requires.circuit
     c.requires.few there c.requires.before c.requires.wires
 
 pub rewire-requires-clause-few : goal.rewire-requires-clause-few
@@ -39,7 +39,7 @@ rewire-requires-clause-few c =
     gate_parts circuit.gates c.args.at c.kind-kind.result c.ins-ins.result.now c.outs-outs.result.now
     c.kind-kind.ensures c.ins-ins.ensures c.outs-outs.ensures in
     let few =
-    few_numbers c.args.draft.now.parties circuit c.args.at c.args.draft.now c.args.wires.now _
+    few_numbers c.args.keys c.args.draft.now.parties circuit c.args.at c.args.draft.now c.args.wires.now _
     c.requires.circuit c.requires.few there c.requires.before c.requires.wires in
     let first = c.gates-first.ensures.value in
     omega arith
@@ -50,7 +50,7 @@ returns-clause-next c =
     let there =
     gate_parts circuit.gates c.args.at c.kind-kind.result c.ins-ins.result.now c.outs-outs.result.now
     c.kind-kind.ensures c.ins-ins.ensures c.outs-outs.ensures in
-    draft_next c.args.draft.now.parties circuit c.args.at c.args.draft.now c.args.wires.now _
+    draft_next c.args.keys c.args.draft.now.parties circuit c.args.at c.args.draft.now c.args.wires.now _
     c.requires.circuit c.requires.few there c.requires.before c.requires.wires c.push_kind.new.draft
     c.in_ok-push_kind.ensures
 
@@ -60,7 +60,7 @@ returns-clause-given c =
     let there =
     gate_parts circuit.gates c.args.at c.kind-kind.result c.ins-ins.result.now c.outs-outs.result.now
     c.kind-kind.ensures c.ins-ins.ensures c.outs-outs.ensures in
-    wires_next c.args.draft.now.parties circuit c.args.at c.args.draft.now c.args.wires.now _
+    wires_next c.args.keys c.args.draft.now.parties circuit c.args.at c.args.draft.now c.args.wires.now _
     c.requires.circuit c.requires.few there c.requires.before c.requires.wires c.rewire.new.wires
     c.input_wire-x.result c.gates-first.result c.input_wire-x.ensures c.gates-first.ensures.value
     c.rewire.ensures

@@ -1,38 +1,44 @@
-use Rattle.std.proofs.Common.{◌∷◌, [], ◌∙◌, ap, arith}
+use Rattle.std.proofs.Common.{ℕ, ◌≡◌, ◌+◌, ◌-◌, ◌*◌, List, length, ◌∙◌, ap, arith}
 use Rattle.std.specs.Prelude.{sum}
-use Rattle.std.proofs.Common.{◌-◌}
 use Rattle.share_types.specs.declared.receiver.Receiver.TheVariants.{All}
-use Rattle.plan_gates.specs.Gate.{OutB}
-use Rattle.plan_gates.specs.Plan.{with_gates}
+use Rattle.plan_gates.specs.Gate.{Gate}
 use Rattle.gate_plan.specs.declared.wire.Wire.{Wire}
-use Rattle.gate_plan.specs.Bristol.{bit_gate}
-use Rattle.gate_plan.proofs.BristolCodeLemmas.{output_next, output_room}
+use Rattle.gate_plan.specs.Blocks.{wire_among, told}
+use Rattle.gate_plan.specs.Bristol.{gates_of_end}
+use Rattle.gate_plan.proofs.BristolBitLemmas.{told_size}
+use Rattle.gate_plan.proofs.BristolCodeLemmas.{row_start, row_next, row_room}
 use Rattle.gate_plan.proofs.expand.push_outputs.Goals as goal
 
-pub push_bit-requires-clause-room : goal.push_bit-requires-clause-room
-push_bit-requires-clause-room c =
+pub push_told-requires : goal.push_told-requires
+push_told-requires c =
+    let keys = c.args.keys in
     let circuit = c.args.circuit.now in
-    let wires = c.wires.ensures.value in
-    let all = c.wires-wire-end.ensures.value in
-    let outputs = c.output_wires.ensures in
-    let test = c.loop-wire-test.true in
-    let start = c.loop-wire.auto.wire in
-    let few = c.requires.circuit.built.few_outputs in
-    output_room c.args.draft.now c.loop-wire.draft c.args.wires.now
-    (circuit.wires - sum circuit.outputs) c.loop-wire.wire (sum circuit.outputs)
-    (omega arith) (omega arith) c.requires.room c.loop-wire.invariant
+    let start : ℕ = length c.args.draft.now.gates in
+    let from : ℕ = circuit.wires - sum circuit.outputs in
+    let f : ℕ → List Gate = λ j. (told keys (start + gates_of_end keys * j) 1 (wire_among c.args.wires.now (from + j)) All).gates in
+    let own = told_size keys (length c.loop-place.draft.gates) 1 c.wire_among-x.result All in
+    let outputs = c.output_wires-place-end.ensures in
+    let test = c.loop-place-test.true in
+    let room = row_room c.args.draft.now c.loop-place.draft c.loop-place.place (gates_of_end keys) f
+    (λ j. told_size keys (start + gates_of_end keys * j) 1 (wire_among c.args.wires.now (from + j)) All) c.loop-place.invariant
+    (sum circuit.outputs) (omega (arith, outputs, test)) c.requires.room in
+    record { room = omega (arith, own, room) }
 
-pub loop-wire-preserved : goal.loop-wire-preserved
-loop-wire-preserved c =
+pub loop-place-preserved : goal.loop-place-preserved
+loop-place-preserved c =
+    let keys = c.args.keys in
     let circuit = c.args.circuit.now in
+    let start : ℕ = length c.args.draft.now.gates in
+    let from : ℕ = circuit.wires - sum circuit.outputs in
+    let f : ℕ → List Gate = λ j. (told keys (start + gates_of_end keys * j) 1 (wire_among c.args.wires.now (from + j)) All).gates in
+    let sizes = λ (j : ℕ). told_size keys (start + gates_of_end keys * j) 1 (wire_among c.args.wires.now (from + j)) All in
     let wires = c.wires.ensures.value in
-    let all = c.wires-wire-end.ensures.value in
     let outputs = c.output_wires.ensures in
-    let start = c.loop-wire.auto.wire in
-    let few = c.requires.circuit.built.few_outputs in
-    output_next c.args.draft.now c.loop-wire.draft c.push_bit.new.draft c.args.wires.now
-    (circuit.wires - sum circuit.outputs) c.loop-wire.wire
-    (omega arith) c.loop-wire.invariant
-    (c.in_ok-push_bit.ensures
-    ∙ ap (λ (a : Wire). with_gates c.loop-wire.draft (bit_gate (OutB a.gate All) ∷ []))
-    c.wire_among-x.ensures)
+    let place : c.wires.result - c.output_wires.result ≡ from = omega (arith, wires, outputs) in
+    row_next c.args.draft.now c.loop-place.draft c.loop-place.place (gates_of_end keys) f sizes c.loop-place.invariant
+    c.push_told.new.draft _
+    (ap (λ (m : ℕ). (told keys m 1 c.wire_among-x.result All).gates)
+    (row_start c.args.draft.now c.loop-place.draft c.loop-place.place (gates_of_end keys) f sizes c.loop-place.invariant)
+    ∙ ap (λ (a : Wire). (told keys (start + gates_of_end keys * c.loop-place.place) 1 a All).gates)
+    (c.wire_among-x.ensures ∙ ap (λ m. wire_among c.args.wires.now (m + c.loop-place.place)) place))
+    c.in_ok-push_told.ensures.next

@@ -16,7 +16,7 @@ pub loop-out-preserved : goal.loop-out-preserved
 loop-out-preserved c =
     let k = c.loop-out.out-index in
     let out = get_or c.args.outs.now k 0 in
-    let made : ℕ → Wire = output_wire c.args.kind c.args.x c.args.first in
+    let made : ℕ → Wire = output_wire c.args.keys c.args.kind c.args.x c.args.first in
     let same = c.loop-out.invariant.0 in (
       omega arith,
       length-set c.loop-out.wires out c.output_wire.result ∙ c.loop-out.invariant.1,
@@ -29,4 +29,4 @@ pub returns : goal.returns
 returns c =
     c.loop-out.invariant.2
     ∙ rewired_all c.args.wires.now c.args.outs.now
-    (output_wire c.args.kind c.args.x c.args.first) c.loop-out.out-index c.loop-out-test.false
+    (output_wire c.args.keys c.args.kind c.args.x c.args.first) c.loop-out.out-index c.loop-out-test.false

@@ -6,4 +6,4 @@ abbrev pub invariant-loop-out : goal.invariant-loop-out
 invariant-loop-out l =
     (l.place ≡ l.out-index)
     × (length l.wires ≡ length l.initial.wires)
-    × (l.wires ≡ rewired l.initial.wires (take l.out-index l.outs) (output_wire l.kind l.x l.first) 0)
+    × (l.wires ≡ rewired l.initial.wires (take l.out-index l.outs) (output_wire l.keys l.kind l.x l.first) 0)

@@ -1,12 +1,12 @@
-use Rattle.std.proofs.Common.{◌≡◌, false, ◌++◌, ◌∷◌, [], ◌+◌, sym, ◌∙◌, ap, subst}
+use Rattle.std.proofs.Common.{◌≡◌, true, ◌++◌, ◌∷◌, [], ◌+◌, sym, ◌∙◌, ap, subst}
 use Rattle.std.specs.Prelude.{slice_get}
 use Rattle.mot_base.proofs.Lists.{some_at, on_ok}
 use Rattle.share_types.specs.Wires.{width_of}
 use Rattle.mixed_language.specs.declared.language.Operation.TheVariants.{ConstBits}
 use Rattle.mixed_language.specs.Circuit.{Shape, shape_of}
 use Rattle.mixed_language.proofs.EvalLemmas.{of_statement}
-use Rattle.gate_plan.specs.Lowering.{wire_handled, is_conversion, operand_wire, lowered_to}
-use Rattle.gate_plan.proofs.BuiltLemmas.{built_at, converts_nothing}
+use Rattle.gate_plan.specs.Lowering.{wire_handled, is_operation_built, operand_wire, lowered_to}
+use Rattle.gate_plan.proofs.BuiltLemmas.{built_at}
 use Rattle.gate_plan.proofs.StatementLemmas.{if_ok, handled, constant_width, code_block, room, draft_next, wires_next, shape_here}
 use Rattle.gate_plan.proofs.lower.push_statement.Goals as goal
 
@@ -17,9 +17,8 @@ push_block-requires-clause-built c =
     let same =
     shape_here circuit.statements c.args.at here.0
     (shape_of c.form-form.result) here.1 c.form-form.ensures.value in
-    subst (λ (sh : Shape). is_conversion sh.operation ≡ false) same
-    (converts_nothing circuit.statements here.0
-    (built_at circuit c.args.at here.0 c.requires.built here.1))
+    subst (λ (sh : Shape). is_operation_built sh.operation ≡ true) same
+    (built_at circuit c.args.at here.0 c.requires.built here.1)
 
 pub push_block-requires-clause-constant : goal.push_block-requires-clause-constant
 push_block-requires-clause-constant c =

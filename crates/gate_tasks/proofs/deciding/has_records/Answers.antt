@@ -1,7 +1,7 @@
 use Rattle.std.proofs.Common.{ap, arith}
 use Rattle.share_types.specs.declared.needs.Needs.{Needs}
 use Rattle.share_types.specs.declared.needs.Kind.TheVariants.{Bit}
-use Rattle.gate_tasks.proofs.Decided.{refused}
+use Rattle.gate_tasks.proofs.Decided.{refused, all_behind}
 use Rattle.gate_tasks.proofs.deciding.has_records.Goals as goal
 
 pub returns-then-not-is_behind-2 : goal.returns-then-not-is_behind-2
@@ -13,3 +13,11 @@ returns-then-not-is_behind-2 c =
     (λ all some.
     let enough = all Bit (omega (arith, some, asked)) in
     omega (arith, enough, asked, before, counts))
+
+pub returns : goal.returns
+returns c =
+    all_behind _ _ _ _ _ _ _ c.is_behind-4.result c.offset-before.ensures c.needs_at-asked.ensures c.counts-counts.ensures
+    (c.is_behind.ensures.0 c.if-not-is_behind.false)
+    (c.is_behind-2.ensures.0 c.if-not-is_behind-2.false)
+    (c.is_behind-3.ensures.0 c.if-not-is_behind-3.false)
+    c.is_behind-4.ensures

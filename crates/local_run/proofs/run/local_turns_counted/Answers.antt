@@ -26,4 +26,4 @@ returns-clause-plain g c =
     let plan = c.args.job.now.plan in
     let owns = owns_with c.args.job.now.owns.items c.args.parts.now in
     let meant = ends_come plan owns c.in_ok-graph.graph.dag c.in_ok-ends.ends.items c.deref.result.now c.parties-parties.ensures.plan c.in_ok-graph.ensures.dag c.in_ok-ends.ensures.ends c.deref.ensures.value in
-    plainly plan owns c.in_ok-reports.reports.items c.parties-parties.ensures.plan (λ table joint. c.in_ok-reports.ensures owns table joint meant)
+    plainly plan owns c.in_ok-reports.reports.items c.parties-parties.ensures.plan c.requires.keyless (λ table joint. c.in_ok-reports.ensures owns table joint meant)

@@ -13,7 +13,7 @@ pub local_turns-requires : goal.local_turns-requires
 local_turns-requires c =
     job_served c.args.plan c.in_ok-job.job.plan c.args.words.now.seed.0 (inputs_of (circuit_of c.args.circuit.now)) c.in_ok-inputs.inputs
     c.args.values.now c.args.parts.now c.in_ok-job.job.owns.items c.in_ok-job.ensures.plan c.in_ok-inputs.ensures.value
-    c.in_ok-job.ensures.owns c.parties-parties.ensures.plan c.requires.takes c.requires.widths c.requires.serve
+    c.in_ok-job.ensures.owns c.parties-parties.ensures.plan c.requires.unkeyed c.requires.takes c.requires.widths c.requires.serve
 
 pub report_runs-requires-clause-parties : goal.report_runs-requires-clause-parties
 report_runs-requires-clause-parties c =
@@ -46,6 +46,7 @@ returns c =
     (IfOk-weaker c.report_runs.result _ _
     (λ text told. run_reported circuit seed v parts owns c.in_ok-reports.reports.items told.0 (string_bytes text) owns_are c.requires.whole
     (rw c.requires.plan at c.requires.keeps) (rw c.requires.plan at c.parties-parties.ensures.plan)
+    (rw c.requires.plan at c.requires.unkeyed)
     (rw c.requires.plan at c.requires.takes) c.requires.widths (rw c.requires.plan at c.requires.serve)
     (rw same at c.in_ok-reports.ensures.joint) (rw same at c.in_ok-reports.ensures.plain)
     (rw (c.as_slice.ensures.value, c.in_ok-outputs.ensures.value) at told.1) (rw c.notation.ensures at told.2))

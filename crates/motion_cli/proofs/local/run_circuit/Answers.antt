@@ -1,6 +1,7 @@
-use Rattle.std.proofs.Common.{◌≡◌, inl, length, map, ap, ◌∙◌}
+use Rattle.std.proofs.Common.{◌≡◌, inl, length, map, sym, ap, ◌∙◌}
 use Rattle.std.specs.Prelude.{option_map, string_bytes}
 use Rattle.std.proofs.lemmas.List.{length-map}
+use Rattle.plan_gates.specs.Plan.{has_keys}
 use Rattle.cli_words.specs.Request.{local_request}
 use Rattle.motion_cli.specs.Circuits.{circuit_of, parties_of}
 use Rattle.motion_cli.specs.Dealer.{part_names}
@@ -17,7 +18,8 @@ returns-in_err-taken c =
     let untaken = rw (c.prefix_of.ensures, c.as_slice.ensures.value) at c.in_err-taken.ensures.err circuit c.in_ok-plan.ensures.plan parties in
     rw said
     (no_parts (local_request c.args.words.now) c.args.values.items circuit (map (λ text. text.items) c.args.parts.items) c.in_ok-values.values
-    (outcome_of c.in_err-taken.field-0.0) c.in_ok-plan.ensures.built c.in_ok-plan.ensures.few c.in_ok-values.ensures.ok untaken)
+    (outcome_of c.in_err-taken.field-0.0) c.in_ok-plan.ensures.built c.in_ok-plan.ensures.few
+    (ap has_keys (sym c.in_ok-plan.ensures.plan) ∙ c.in_ok-judge_keys.ensures.unkeyed) c.in_ok-values.ensures.ok untaken)
 
 pub run_and_report-requires-clause-serve : goal.run_and_report-requires-clause-serve
 run_and_report-requires-clause-serve c =
@@ -39,4 +41,5 @@ returns c =
     let run = rw c.as_slice-2.ensures.value at c.in_ok-run_and_report.ensures in
     inl
     (run_reads (local_request c.args.words.now) c.args.values.items circuit (map (λ text. text.items) c.args.parts.items) c.in_ok-values.values
-    c.in_ok-taken.taken.items _ c.requires.whole c.in_ok-plan.ensures.built c.in_ok-plan.ensures.few c.in_ok-values.ensures.ok taken run)
+    c.in_ok-taken.taken.items _ c.requires.whole c.in_ok-plan.ensures.built c.in_ok-plan.ensures.few
+    (ap has_keys (sym c.in_ok-plan.ensures.plan) ∙ c.in_ok-judge_keys.ensures.unkeyed) c.in_ok-values.ensures.ok taken run)

@@ -12,7 +12,7 @@ run-requires-clause-serves c =
     let scene : IsScene b c.args.inbox.now p = subst (λ (s : Side). IsScene s c.args.inbox.now p) (sym c.brought.view_is) c.requires.scene in
     let ready : IsReady b c.args.inbox.now p c.args.gate = subst (λ (s : Side). IsReady s c.args.inbox.now p c.args.gate) (sym c.brought.view_is) c.requires.ready in
     let here : c.task-task.result.now.gate ≡ c.args.gate = scene.progress.gate c.args.gate c.task-task.result.now c.task-task.ensures in
-    serves b.plan (me_of b) c.task-task.result.now.gate b.own b.part scene.serves (subst (λ g. g < length b.plan.gates) (sym here) ready.inside)
+    serves b.plan (me_of b) c.task-task.result.now.gate b.own b.part scene.serves scene.unkeyed (subst (λ g. g < length b.plan.gates) (sym here) ready.inside)
 
 pub returns : goal.returns
 returns c =

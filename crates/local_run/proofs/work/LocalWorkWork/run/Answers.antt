@@ -33,7 +33,7 @@ outputs-requires c =
     let there = place_there plan c.self.inside.graph.now.items.items c.args.item c.index-place.result.now c.self.invariant.items_are less c.index-place.ensures in
     let count = with_count plan c.self.inside.job.now.owns.items c.self.inside.parts.now c.self.invariant.job in
     outputs_have plan owns c.self.inside.graph.now.dag c.args.item c.index-place.result.now _ _ c.in_ok-given.given count
-    c.self.invariant.plan_is c.self.invariant.graph_is (c.deref.ensures.value ∙ c.self.invariant.loads_are) c.outgoing-edges.ensures there c.in_ok-given.ensures
+    c.self.invariant.plan_is c.self.invariant.job.keyless c.self.invariant.graph_is (c.deref.ensures.value ∙ c.self.invariant.loads_are) c.outgoing-edges.ensures there c.in_ok-given.ensures
 
 pub returns : goal.returns
 returns c =
@@ -43,5 +43,5 @@ returns c =
     let there = place_there plan c.self.inside.graph.now.items.items c.args.item c.index-place.result.now c.self.invariant.items_are less c.index-place.ensures in
     let count = with_count plan c.self.inside.job.now.owns.items c.self.inside.parts.now c.self.invariant.job in
     let here = outputs_at plan owns c.self.inside.graph.now.dag c.args.item c.index-place.result.now _ _ c.in_ok-given.given c.in_ok-outputs.outputs.items count
-    c.self.invariant.plan_is c.self.invariant.graph_is (c.deref.ensures.value ∙ c.self.invariant.loads_are) c.outgoing-edges.ensures there c.in_ok-given.ensures c.in_ok-outputs.ensures in
+    c.self.invariant.plan_is c.self.invariant.job.keyless c.self.invariant.graph_is (c.deref.ensures.value ∙ c.self.invariant.loads_are) c.outgoing-edges.ensures there c.in_ok-given.ensures c.in_ok-outputs.ensures in
     subst (λ (x : Running). AreMeanings (edge_means x.plan x.owns) (outgoing x.graph c.args.item) c.in_ok-outputs.outputs.items) c.self.view_is here
