@@ -1,6 +1,6 @@
 -- What a stage that lacks nothing is given is what the equations give it.
-use Rattle.std.proofs.Common.{ℕ, zero, suc, ◌≡◌, ◌<◌, Bool, true, false, List, [], ◌∷◌, ◌++◌, length, map, get_or, Option, Some, None, refl, sym, ap, ap₂, ◌∙◌, subst, arith}
-use Rattle.std.specs.Prelude.{slice_get, option_map, is_none, is_some, IfSome}
+use Rattle.std.proofs.Common.{ℕ, zero, suc, ◌≡◌, ◌<◌, List, [], ◌∷◌, length, map, get_or, Option, Some, None, refl, sym, ap, ap₂, ◌∙◌, subst, arith}
+use Rattle.std.specs.Prelude.{slice_get, option_map, IfSome}
 use Rattle.std.specs.FinMap as m
 use Rattle.std.specs.List.{AllByRecursion}
 use Rattle.std.specs.Option.{option_or}
@@ -16,11 +16,11 @@ use Rattle.gate_tasks.specs.declared.step.Need.{Need}
 use Rattle.gate_tasks.specs.declared.step.Need.TheVariants as need
 use Rattle.gate_tasks.specs.declared.value.Value.{Value as ValueInMemory}
 use Rattle.gate_tasks.specs.Stage.{value_of, operands_of, operands_at, senders, heard_in, IsStage, Gives, IsOf}
-use Rattle.gate_tasks.specs.Task.{Task, held_values, option_list, kept_payloads, payloads_at, gate_lacking, party_lacking, slot_lacking, slot_from, HoldTypes, ExpectsAll}
+use Rattle.gate_tasks.specs.Task.{Task, held_values, kept_payloads, payloads_at, gate_lacking, party_lacking, slot_lacking, slot_from, HoldTypes, ExpectsAll}
 use Rattle.gate_tasks.specs.Wires.{value_held}
 use Rattle.gate_tasks.proofs.Gathered.{neither}
 use Rattle.mot_base.proofs.Lists.{mapped_none as none_of, same_some as some_is}
-use Rattle.party_stages.specs.Following.{Side, me_of, own_of, hand_of, Extends, Progress, said_at, HasFollowed, Follows, IsProgress, IsRan}
+use Rattle.party_stages.specs.Following.{Side, me_of, own_of, hand_of, Extends, Progress, said_at, HasFollowed, IsProgress, IsRan}
 use Rattle.party_stages.specs.Scene.{IsScene, IsReady, need_at}
 
 -- ---- operands
@@ -30,7 +30,7 @@ earlier : (gates : List Gate) (g : ℕ) (used : List Use) → AllByRecursion (Is
 earlier gates g [] all = tt
 earlier gates g (u ∷ used) all = (all.0.0, earlier gates g used all.1)
 
-operands_before : (plan : Gates) (g : ℕ) (o : Option Gate) → slice_get plan.gates g ≡ o → IsPlan plan → AllByRecursion (λ x. x < g) (operands_of (option_map (λ gate. gate.kind) o))
+pub operands_before : (plan : Gates) (g : ℕ) (o : Option Gate) → slice_get plan.gates g ≡ o → IsPlan plan → AllByRecursion (λ x. x < g) (operands_of (option_map (λ gate. gate.kind) o))
 operands_before plan g None there is = tt
 operands_before plan g (Some gate) there is = earlier plan.gates g (uses gate.kind) (is.each g gate there).uses
 

@@ -1,3 +1,5 @@
 pub mod Held
 pub mod Lone
+pub mod Next
 pub mod Taking
+pub mod Starting

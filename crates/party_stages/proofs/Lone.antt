@@ -1,18 +1,18 @@
 -- A graph of items without edges between them.
-use Rattle.std.proofs.Common.{◌≡◌, ◌≢◌, ◌⊎◌, ℕ, zero, suc, ◌+◌, ◌<◌, ◌≤◌, Bool, true, false, cond, ltb, eqb, List, [], ◌∷◌, ◌++◌, append_assoc, length, map, get_or, Option, Some, None, inl, inr, refl, sym, ap, ap₂, ◌∙◌, subst, arith}
+use Rattle.std.proofs.Common.{◌≡◌, ◌⊎◌, ℕ, zero, suc, ◌+◌, ◌<◌, ◌≤◌, Bool, true, false, cond, List, [], ◌∷◌, ◌++◌, length, map, get_or, Option, Some, None, inl, inr, refl, sym, ap, ap₂, ◌∙◌, arith}
 use Rattle.std.specs.Prelude.{◌==◌, ◌&&◌, ◌||◌, not, nat_lt, nat_le, slice_get}
 use Rattle.std.specs.List.{All, AllByRecursion, position}
 use Rattle.std.proofs.lemmas.Bool.{cases_lt, lt-ltb, ltb-true, false≢true, eq-eqb, ne_eqb}
-use Rattle.std.proofs.lemmas.List.{length-append, map-append, append-nil}
+use Rattle.std.proofs.lemmas.List.{map-append}
 use Rattle.std.proofs.lemmas.List.Elements.{All-from_recursion}
 use Rattle.std.proofs.lemmas.List.Quantifiers.{position-Some}
-use Rattle.std.proofs.lemmas.Option.{slice_get_within, get_or_from_slice_get}
+use Rattle.std.proofs.lemmas.Option.{get_or_from_slice_get}
 use Rattle.mot_base.specs.Limits.{most_gates}
 use Rattle.share_types.specs.Sums.{each}
 use Rattle.share_types.proofs.Parties.{length-each}
 use Rattle.turn_core.specs.declared.edge.Edge.{Edge}
 use Rattle.turn_core.specs.declared.edge.TheConstants.{OUTSIDE, TERMINAL}
-use Rattle.turn_core.specs.Graph.{Graph, sources, source, places, places_from, outgoing, has_bad_end, goes_back, first_bad_end, first_back}
+use Rattle.turn_core.specs.Graph.{sources, source, places, places_from, outgoing, has_bad_end, goes_back, first_bad_end, first_back}
 use Rattle.task_pool.specs.Meanings.{AreMeanings, HasNoOutside}
 use Rattle.plan_gates.proofs.NeedsLemmas.{slice_get-each}
 use Rattle.party_stages.specs.Scene.{lone_items}

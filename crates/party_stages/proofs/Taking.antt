@@ -1,28 +1,24 @@
 -- A stage that was run is taken into the state of a party.
-use Rattle.std.proofs.Common.{◌≡◌, ◌≢◌, ℕ, zero, suc, ◌+◌, ◌<◌, ◌≤◌, eqb, Bool, true, false, cond, not, List, [], ◌∷◌, ◌++◌, length, map, filter, get_or, set, Option, Some, None, refl, sym, ap, ap₂, subst, ◌∙◌, inl, inr, arith}
-use Rattle.std.specs.Prelude.{◌==◌, ◌&&◌, nat_lt, slice_get, slice_set, option_map, is_some, IfSome}
-use Rattle.std.specs.FinMap as m
-use Rattle.std.specs.List.{All, AllByRecursion, flat_map}
+use Rattle.std.proofs.Common.{◌≡◌, ◌≢◌, ℕ, zero, suc, ◌+◌, ◌<◌, eqb, Bool, true, false, cond, List, [], ◌∷◌, ◌++◌, length, map, filter, get_or, Option, Some, None, refl, sym, ap, ap₂, subst, ◌∙◌, inl, inr, arith}
+use Rattle.std.specs.Prelude.{slice_get, slice_set, option_map, is_some, IfSome}
+use Rattle.std.specs.List.{AllByRecursion, flat_map}
 use Rattle.std.specs.Option.{unwrap_or}
 use Rattle.std.proofs.lemmas.Bool.{eqb-true, eqb-false, cases_lt}
 use Rattle.std.proofs.lemmas.List.{get_or-set_same, get_or-set_other, length-set}
-use Rattle.std.proofs.lemmas.List.Elements.{All-from_recursion, filter-append}
 use Rattle.std.proofs.lemmas.Option.{slice_get_within, get_or_from_slice_get}
 use Rattle.mot_base.proofs.Lists.{same_some as some_is, all_append}
 use Rattle.share_types.specs.Sums.{each}
 use Rattle.message_demux.specs.Kept.{InboxContents}
 use Rattle.plan_gates.specs.Gate.{Gate}
-use Rattle.plan_gates.specs.Plan.{Gates, IsPlan}
-use Rattle.plan_gates.specs.declared.message.Message.{Message}
-use Rattle.plan_gates.specs.Messages.{message, are_two, stages}
-use Rattle.joint_run.specs.Party.{Own, Payload, Inbox, Rounds, Hand, party_sends, value_at}
+use Rattle.plan_gates.specs.Messages.{message, stages}
+use Rattle.joint_run.specs.Party.{Inbox, Rounds, Hand, value_at}
 use Rattle.gate_tasks.specs.declared.outgoing.Out.{Out}
 use Rattle.gate_tasks.specs.declared.stage.StageOut.{StageOut}
 use Rattle.gate_tasks.specs.declared.value.Value.{Value as ValueInMemory}
 use Rattle.gate_tasks.specs.Stage.{value_of, gate_of, receivers, rounds_sent, out_to, outs_in, outs_of, formed_before, carried_to, carried_on, value_on, is_last, IsOf, Gives}
-use Rattle.gate_tasks.specs.Task.{Task, new_task, slot_from}
+use Rattle.gate_tasks.specs.Task.{Task, new_task}
 use Rattle.gate_tasks.specs.Wires.{value_held, with_value}
-use Rattle.party_stages.specs.Following.{Side, me_of, own_of, hand_of, heard_of, Extends, Progress, said_at, outs_before, stages_run, HasFollowed, IsProgress, Follows, HasRun, next_task, tasks_after, wires_after, progress_after}
+use Rattle.party_stages.specs.Following.{Side, me_of, hand_of, heard_of, Extends, Progress, said_at, outs_before, HasFollowed, IsProgress, Follows, HasRun, next_task, tasks_after, wires_after, progress_after}
 use Rattle.party_stages.specs.Scene.{IsScene}
 
 -- ---- what a stage sends
@@ -30,7 +26,7 @@ use Rattle.party_stages.specs.Scene.{IsScene}
 pub kept_extends : (inbox : InboxContents) → Extends inbox (heard_of inbox)
 kept_extends inbox g round from payload kept = ap (λ o. unwrap_or o []) kept
 
-filter_holds : (test : ℕ → Bool) (xs : List ℕ) → AllByRecursion (λ x. test x ≡ true) (filter test xs)
+pub filter_holds : (test : ℕ → Bool) (xs : List ℕ) → AllByRecursion (λ x. test x ≡ true) (filter test xs)
 filter_holds test [] = tt
 filter_holds test (x ∷ xs) = one (test x) refl (filter_holds test xs)
   where
@@ -110,7 +106,7 @@ follows_early h got task outs given far gives is =
 
 -- ---- the state
 
-set_here : {X : Type 0} (xs : List X) (i : ℕ) (y x : X) → i < length xs → slice_get (slice_set xs i y) i ≡ Some x → x ≡ y
+pub set_here : {X : Type 0} (xs : List X) (i : ℕ) (y x : X) → i < length xs → slice_get (slice_set xs i y) i ≡ Some x → x ≡ y
 set_here [] i y x inside there = absurd (omega (arith, inside))
 set_here (z ∷ xs) zero y x inside there = sym (some_is y x there)
 set_here (z ∷ xs) (suc i) y x inside there = set_here xs i y x (omega (arith, inside)) there

@@ -17,6 +17,14 @@ use Rattle.gate_tasks.specs.declared.step.Need.TheVariants as need
 use Rattle.party_stages.specs.declared.ran.Ran.{Ran}
 use Rattle.party_stages.specs.Following.{Side, me_of, Progress, IsProgress, Follows}
 
+-- what a party brings fits the plan, and its inbox expects the plan's messages to it
+pub record IsStart (b : Side) (inbox : InboxContents) : Type 0 where
+  pub plan : IsPlan b.plan
+  pub unkeyed : has_keys b.plan ≡ false
+  pub inside : me_of b < b.plan.parties
+  pub serves : ServeParty b.plan (me_of b) b.own b.part
+  pub slots : AreSlotsTo b.plan (me_of b) inbox.slots
+
 -- what a party brings fits the plan, its inbox expects the plan's messages to it, and it goes by the equations
 pub record IsScene (b : Side) (inbox : InboxContents) (p : Progress) : Type 0 where
   pub plan : IsPlan b.plan

@@ -11,5 +11,5 @@ mod stages;
 pub use brought::Brought;
 pub use ran::Ran;
 pub use ready::run_ready;
-pub use scene::{need_of, run_one};
+pub use scene::{Found, look, need_of, run_one};
 pub use stages::Stages;

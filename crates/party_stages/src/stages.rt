@@ -4,7 +4,7 @@ ghost use Rattle.std.specs.Prelude.{◌≡◌, ◌<◌, length, slice_get, true,
 ghost use Rattle.message_demux.specs.Kept.{InboxContents};
 ghost use Rattle.gate_tasks.specs.Wires.{value_held};
 ghost use Rattle.party_stages.specs.Following.{Side, no_progress, progress_after, IsRan};
-ghost use Rattle.party_stages.specs.Scene.{IsScene, IsNext};
+ghost use Rattle.party_stages.specs.Scene.{IsScene, IsStart, IsNext};
 
 use crate::ran::Ran;
 use gate_tasks::{GateTask, Outs, StageOut, Value, Wires};
@@ -36,7 +36,9 @@ impl Model for Stages {
 impl Stages {
     /// Nothing was run of so many gates.
     pub fn new(alloc: Global, gates: u32) -> Result<Stages, NoMemory>
-        ensures { IfOk result (λ stages. stages ≡ no_progress gates) }
+        ensures is { IfOk result (λ stages. stages ≡ no_progress gates) }
+        ensures scene { IfOk result (λ stages. (b : Side) (inbox : InboxContents) →
+            length b.plan.gates ≡ gates → IsStart b inbox → IsScene b inbox stages) }
     {
         let mut tasks = Vec::with_capacity(alloc, gates as usize)?;
         let mut said = Vec::with_capacity(alloc, gates as usize)?;

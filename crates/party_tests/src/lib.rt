@@ -2,4 +2,6 @@
 #![tactic(auto)]
 
 #[cfg(test)]
+mod running;
+#[cfg(test)]
 mod streams;

@@ -39,7 +39,8 @@ fn stream(alloc: Global, parts: &str) -> Option<Vec<u8>> {
     hex::decode(alloc, text.as_str()).ok()
 }
 
-fn cut(alloc: Global, bytes: &[u8], size: usize) -> Result<Vec<Piece>, AllocError>
+/// Bytes of party 1 in pieces of a size.
+pub(crate) fn cut(alloc: Global, bytes: &[u8], size: usize) -> Result<Vec<Piece>, AllocError>
     requires { 0 < size }
 {
     let mut pieces = Vec::new(alloc);

@@ -2,9 +2,8 @@
 use Rattle.std.proofs.Common.{◌≡◌, ℕ, eqb, ◌&&◌, Bool, true, false, cond, List, [], ◌∷◌, ◌++◌, refl, sym, ap, subst, ◌∙◌, Option, Some, None, is_none, arith}
 use Rattle.std.specs.FinMap as m
 use Rattle.std.specs.List.{find}
-use Rattle.std.specs.Option.{option_or, option_map}
+use Rattle.std.specs.Option.{option_or}
 use Rattle.std.specs.Ordering.{eq_by_cmp}
-use Rattle.std.proofs.lemmas.Bool.{eqb-true}
 use Rattle.std.proofs.lemmas.Bool.Decides.{nat_tests}
 use Rattle.mot_base.specs.declared.Party.{Party}
 use Rattle.frames.specs.Reading.{Progress, Waiting, Faulty, Ended, Reads, has_ended}
@@ -16,8 +15,8 @@ use Rattle.message_demux.specs.declared.slots.SlotSpec.{SlotSpec}
 use Rattle.message_demux.specs.Kept.{InboxContents}
 use Rattle.message_demux.specs.Slots.{slot_cmp, slot_of, listed}
 use Rattle.peer_streams.specs.declared.error.PartyError.TheVariants as cause
-use Rattle.peer_streams.specs.Judging.{kept_in, is_lacking, first_cause, cause_behind, cause_of, greeting_cause, own_cause}
-use Rattle.peer_streams.specs.Reading.{PeerRead, HasRead, bytes_cause}
+use Rattle.peer_streams.specs.Judging.{kept_in, is_lacking, first_cause, cause_behind, greeting_cause, own_cause}
+use Rattle.peer_streams.specs.Reading.{PeerRead, HasRead}
 use Rattle.peer_streams.proofs.Judged.{causes-append}
 use Rattle.peer_streams.proofs.Keeping.{same_slot, kept-append}
 use Rattle.mot_base.proofs.Lists.{neither_some as neither, mapped_none as none_of, option_or_none as or_none}

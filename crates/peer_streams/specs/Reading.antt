@@ -3,7 +3,9 @@ use Rattle.std.specs.Prelude.{◌≡◌, ℕ, Bool, List, length, Option, Some, 
 use Rattle.std.specs.FinMap as map
 use Rattle.std.specs.Option.{option_or, option_map}
 use Rattle.mot_base.specs.Limits.{peer_bytes}
+use Rattle.mot_base.specs.Links.{IsPeer}
 use Rattle.mot_base.specs.declared.Party.{Party}
+use Rattle.mot_base.specs.declared.links.Place.{Place}
 use Rattle.frames.specs.Reading.{Progress, Reads, fault_of}
 use Rattle.frames.specs.declared.frame.Hello as hello
 use Rattle.frames.specs.declared.frame.Frame.{Frame}
@@ -41,6 +43,11 @@ KeepsOf inbox peer frames =
 abbrev pub StillKeeps : InboxContents → InboxContents → Type 0
 StillKeeps before after =
     (slot : Slot) (payload : List ℕ) → map.get before.kept slot ≡ Some payload → map.get after.kept slot ≡ Some payload
+
+-- what an inbox keeps of those that are no peers is kept by another one too, and nothing else of them
+abbrev pub KeepsOthers : Place → InboxContents → InboxContents → Type 0
+KeepsOthers place before after =
+    (slot : Slot) → (IsPeer (Some place) slot.from.0 → ⊥) → map.get after.kept slot ≡ map.get before.kept slot
 
 -- how far a peer was read: the Hello that is expected of it, how far its bytes were cut into frames,
 -- how many bytes they are, and whether it has greeted

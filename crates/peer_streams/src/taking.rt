@@ -4,7 +4,7 @@ ghost use Rattle.mot_base.specs.Faults.{Rose};
 ghost use Rattle.mot_base.specs.Limits.{peer_bytes};
 ghost use Rattle.mot_base.specs.Links.{ByParty, IsOpen, IsKept};
 ghost use Rattle.frames.specs.Reading.{has_ended};
-ghost use Rattle.peer_streams.specs.Reading.{PeerRead, StillKeeps};
+ghost use Rattle.peer_streams.specs.Reading.{PeerRead, StillKeeps, KeepsOthers};
 ghost use Rattle.peer_streams.specs.Taking.{ArePeers, HasTaken, HaveRead, hellos_of, IsAnswer, NamesPeer, HaveRoom, events_left};
 
 use crate::error::PartyError;
@@ -47,6 +47,7 @@ pub fn take_event<L: Links>(
     ensures hellos { hellos_of peers.new.items ≡ hellos_of peers.old.items }
     ensures slots { inbox.new.slots ≡ inbox.old.slots }
     ensures still { StillKeeps inbox.old inbox.new }
+    ensures others { KeepsOthers place inbox.old inbox.new }
     ensures place { L.place links.new ≡ L.place links.old }
     ensures sent { IsKept (L.sent links.old) (L.sent links.new) }
     ensures flushed { L.flushed links.new ≡ L.flushed links.old }
@@ -103,6 +104,8 @@ pub fn read_all<L: Links>(
         Rose (L.faults links.old) (L.faults links.new) }
     ensures hellos { hellos_of peers.new.items ≡ hellos_of peers.old.items }
     ensures slots { inbox.new.slots ≡ inbox.old.slots }
+    ensures still { StillKeeps inbox.old inbox.new }
+    ensures others { KeepsOthers place inbox.old inbox.new }
     ensures place { L.place links.new ≡ L.place links.old }
     ensures sent { IsKept (L.sent links.old) (L.sent links.new) }
     ensures flushed { L.flushed links.new ≡ L.flushed links.old }

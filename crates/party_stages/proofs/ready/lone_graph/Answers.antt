@@ -1,4 +1,4 @@
-use Rattle.std.proofs.Common.{Err, List, ◌∙◌, sym, refl, ap, length, arith}
+use Rattle.std.proofs.Common.{Err, List, ap, length, arith}
 use Rattle.share_types.proofs.Parties.{length-each}
 use Rattle.turn_core.specs.declared.edge.Edge.{Edge}
 use Rattle.turn_core.specs.declared.edge.TheConstants.{TERMINAL}

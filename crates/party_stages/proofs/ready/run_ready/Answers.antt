@@ -1,10 +1,8 @@
-use Rattle.std.proofs.Common.{◌≡◌, ◌<◌, ◌≤◌, List, sym, ap, subst, length, arith}
+use Rattle.std.proofs.Common.{sym, subst, length}
 use Rattle.std.specs.List.{All}
 use Rattle.turn_core.specs.Graph.{Graph}
 use Rattle.task_pool.specs.Meanings.{HasNoOutside}
-use Rattle.party_stages.specs.declared.ran.Ran.{Ran}
 use Rattle.party_stages.specs.Following.{Side, IsRan}
-use Rattle.party_stages.specs.Scene.{Wave, lone_items}
 use Rattle.party_stages.proofs.Lone.{none_outside, all_mean}
 use Rattle.party_stages.proofs.ready.run_ready.Goals as goal
 

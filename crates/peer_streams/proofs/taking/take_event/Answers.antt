@@ -1,4 +1,6 @@
-use Rattle.std.proofs.Common.{◌≡◌, ◌++◌, ℕ, List, inl, inr, refl, length, take, Some, arith}
+use Rattle.std.proofs.Common.{◌≡◌, ◌∙◌, ◌++◌, ℕ, List, ap, inl, inr, refl, subst, sym, length, take, Some, arith}
+use Rattle.mot_base.specs.Links.{IsPeer}
+use Rattle.mot_base.specs.declared.Party.{Party}
 use Rattle.std.proofs.lemmas.List.{length-take-le}
 use Rattle.std.proofs.lemmas.Option.{slice_get_read}
 use Rattle.std.proofs.lemmas.Result.{on_ok_weaker, IfErr-weaker}
@@ -88,6 +90,15 @@ returns-in-Bytes-clause-hellos g c =
     let old = c.index_mut-peer.result.now in
     let there = slice_get_read peers (length peers) c.in-Bytes.from.0 old refl (omega (arith, c.requires.peers.count, peer.0)) (rw c.from.ensures at c.index_mut-peer.ensures.value) in
     rw c.from.ensures (map_set_same (λ (one : PeerRead). one.expected) peers c.in-Bytes.from.0 c.receive.new.self old there c.receive.ensures.expected)
+
+pub returns-in-Bytes-clause-others : goal.returns-in-Bytes-clause-others
+returns-in-Bytes-clause-others g c = λ slot outside.
+    let peers = c.args.peers.now.items in
+    let peer = rw c.requires.place at c.in-Bytes.ensures.peer in
+    let old = c.index_mut-peer.result.now in
+    let there = slice_get_read peers (length peers) c.in-Bytes.from.0 old refl (omega (arith, c.requires.peers.count, peer.0)) (rw c.from.ensures at c.index_mut-peer.ensures.value) in
+    let is : old.expected.from.0 ≡ c.in-Bytes.from.0 = c.requires.peers.in_order c.in-Bytes.from.0 old there in
+    c.receive.ensures.others slot (λ same. outside (subst (λ (q : ℕ). IsPeer (Some c.args.place) q) (sym is ∙ ap (λ (p : Party). p.0) (sym same)) peer))
 
 pub returns-in-Closed-clause-peers : goal.returns-in-Closed-clause-peers
 returns-in-Closed-clause-peers g c =

@@ -1,4 +1,4 @@
-use Rattle.std.proofs.Common.{◌≡◌, sym, subst}
+use Rattle.std.proofs.Common.{sym, subst}
 use Rattle.std.proofs.lemmas.Result.{on_ok_weaker}
 use Rattle.party_stages.specs.Following.{Progress, HasRun}
 use Rattle.party_stages.specs.Scene.{IsScene}

@@ -1,0 +1,10 @@
+pub mod Conversing
+pub mod Hearing
+pub mod HonestRun
+pub mod Kept
+pub mod Options
+pub mod Reported
+pub mod Resting
+pub mod Rounds
+pub mod Said
+pub mod Sending

@@ -1,0 +1,4 @@
+pub mod Reporting
+pub mod Rest
+pub mod Run
+pub mod Saying
