@@ -6,13 +6,14 @@ use Rattle.std.proofs.lemmas.Slice.Eq.{bytes_eq-Decides}
 use Rattle.mot_base.proofs.Lists.{same_some}
 use Rattle.cli_words.specs.Table.{options, option_name, is_same}
 use Rattle.cli_words.specs.declared.table.OptionName.{OptionName}
-use Rattle.cli_words.specs.declared.table.OptionName.TheVariants.{As, Parties, Dealer}
+use Rattle.cli_words.specs.declared.table.OptionName.TheVariants.{As, Parties, Dealer, Workers}
 
 -- each option stands in the table, the first of its name
 option_at : (o : OptionName) → find (is_same o) options ≡ Some o
 option_at As = refl
 option_at Parties = refl
 option_at Dealer = refl
+option_at Workers = refl
 
 pub same_option : (a b : OptionName) → is_same a b ≡ true → a ≡ b
 same_option a b same =

@@ -10,7 +10,7 @@ use Rattle.cli_words.specs.Table.{flag, options}
 use Rattle.cli_words.specs.Grammar.{IsPlain, option, word}
 use Rattle.cli_words.specs.Pass.{is_plain, rest_after, rest_spelling, Next, after_spelling, option_step, options_step, first_step}
 use Rattle.cli_words.specs.declared.table.OptionName.{OptionName}
-use Rattle.cli_words.specs.declared.table.OptionName.TheVariants.{As, Parties, Dealer}
+use Rattle.cli_words.specs.declared.table.OptionName.TheVariants.{As, Parties, Dealer, Workers}
 use Rattle.cli_words.specs.declared.pass.State.TheVariants.{Between, Awaiting, Behind}
 
 pub plain_from : (w : Text) → is_plain w ≡ true → IsPlain w
@@ -110,6 +110,7 @@ pub step_flag : (o : OptionName) → first_step (flag o) ≡ Some (record { piec
 step_flag As = refl
 step_flag Parties = refl
 step_flag Dealer = refl
+step_flag Workers = refl
 
 pub step_joined : (o : OptionName) (v : Text) → v ≢ []
     → first_step (flag o ++ (codes "=" ++ v)) ≡ Some (record { piece = Some (option o v); state = Between })
@@ -117,3 +118,4 @@ step_joined o [] h = absurd (h refl)
 step_joined As (v ∷ vs) h = refl
 step_joined Parties (v ∷ vs) h = refl
 step_joined Dealer (v ∷ vs) h = refl
+step_joined Workers (v ∷ vs) h = refl

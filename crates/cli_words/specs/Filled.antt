@@ -2,7 +2,7 @@
 use Rattle.std.specs.Prelude.{◌≡◌, true, false, List, [], ◌∷◌, map, Option, Some, None, option_map, option_and_then, if◌then◌else◌}
 use Rattle.std.specs.List.{list_any}
 use Rattle.text_lines.specs.Text.{Text}
-use Rattle.cli_words.specs.Table.{Meaning, name, seed, sharing, parties, number, option_row, option_name, meaning_of, is_same}
+use Rattle.cli_words.specs.Table.{Meaning, name, seed, sharing, parties, workers, number, option_row, option_name, meaning_of, is_same}
 use Rattle.cli_words.specs.Request.{Said}
 use Rattle.cli_words.specs.Pass.{said_by}
 use Rattle.cli_words.specs.declared.table.Kind.{Kind}
@@ -17,6 +17,7 @@ meaning_in (value.Name text) = name text.now
 meaning_in (value.Seed s) = seed s.0
 meaning_in (value.Sharing way) = sharing way.sharing
 meaning_in (value.Parties n) = parties n.count
+meaning_in (value.Workers n) = workers n.count
 meaning_in (value.Number n) = number n
 
 -- what an option of these says

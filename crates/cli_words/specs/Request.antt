@@ -1,12 +1,12 @@
 -- What a whole line of words asks for.
-use Rattle.std.specs.Prelude.{ℕ, List, slice_get, Option, Some, None, option_map, option_and_then, string_bytes}
+use Rattle.std.specs.Prelude.{ℕ, List, slice_get, Option, Some, None, option_map, option_and_then, unwrap_or, string_bytes}
 use Rattle.share_types.specs.declared.sharing.Sharing.{Sharing}
 use Rattle.text_lines.specs.Text.{Text}
-use Rattle.cli_words.specs.Table.{Meaning, name, seed, sharing, parties, number}
+use Rattle.cli_words.specs.Table.{Meaning, name, seed, sharing, parties, workers, number}
 use Rattle.cli_words.specs.declared.table.Command.{Command}
 use Rattle.cli_words.specs.declared.table.Command.TheVariants.{Plain, Needs, Deal, Local}
 use Rattle.cli_words.specs.declared.table.OptionName.{OptionName}
-use Rattle.cli_words.specs.declared.table.OptionName.TheVariants.{As, Parties, Dealer}
+use Rattle.cli_words.specs.declared.table.OptionName.TheVariants.{As, Parties, Dealer, Workers}
 use Rattle.cli_words.specs.declared.words.CommandWords.{CommandWords}
 use Rattle.cli_words.specs.declared.words.CommandWords.TheVariants as words
 use Rattle.cli_words.specs.declared.words.BristolWords.{BristolWords}
@@ -41,13 +41,14 @@ pub record DealRequest : Type 0 where
   pub shared : ℕ
   pub key : ℕ
 
--- a run of all parties in one process
+-- a run of all parties in one process, by so many workers
 pub record LocalRequest : Type 0 where
   pub circuit : Text
   pub values : Text
   pub seed : List ℕ
   pub bristol : Option Bristol
   pub dealer : Option Text
+  pub workers : ℕ
 
 pub data Request : Type 0 where
   plain : PlainRequest → Request
@@ -83,6 +84,10 @@ as_sharing _ = None
 abbrev pub as_parties : Meaning → Option ℕ
 as_parties (parties n) = Some n
 as_parties _ = None
+
+abbrev pub as_workers : Meaning → Option ℕ
+as_workers (workers n) = Some n
+as_workers _ = None
 
 abbrev pub as_number : Meaning → Option ℕ
 as_number (number n) = Some n
@@ -160,13 +165,16 @@ local_said said =
     option_and_then (λ values.
     option_and_then (λ seed.
     option_and_then (λ bristol.
-    option_map (λ dealer. record {
+    option_and_then (λ dealer.
+    option_map (λ workers. record {
       circuit = circuit;
       values = values;
       seed = seed;
       bristol = bristol;
       dealer = dealer;
+      workers = unwrap_or workers 1;
     })
+    (option_as as_workers (said.option Workers)))
     (option_as as_name (said.option Dealer)))
     (bristol_said said))
     (word_as as_seed said 2))
@@ -216,6 +224,7 @@ local_request r = record {
   seed = r.seed.0;
   bristol = option_map bristol_of r.bristol;
   dealer = option_map string_bytes r.dealer;
+  workers = r.workers;
 }
 
 abbrev pub request_of : CommandWords → Request

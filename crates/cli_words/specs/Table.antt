@@ -4,7 +4,7 @@ use Rattle.std.specs.Borrow.{Bor}
 use Rattle.std.specs.Result.{result_ok}
 use Rattle.std.specs.Str.Parse.{digits_value}
 use Rattle.hex.specs.Hex.{decode_of}
-use Rattle.mot_base.specs.Limits.{least_parties, most_parties, dealt_records}
+use Rattle.mot_base.specs.Limits.{least_parties, most_parties, most_workers, dealt_records}
 use Rattle.share_types.specs.declared.sharing.Sharing.{Sharing}
 use Rattle.share_types.specs.declared.sharing.Sharing.TheVariants.{B, Y}
 use Rattle.text_lines.specs.Text.{Text}
@@ -12,7 +12,7 @@ use Rattle.text_lines.specs.Word.{are_digits}
 use Rattle.cli_words.specs.declared.table.Command.{Command}
 use Rattle.cli_words.specs.declared.table.Command.TheVariants.{Plain, Needs, Deal, Local}
 use Rattle.cli_words.specs.declared.table.OptionName.{OptionName}
-use Rattle.cli_words.specs.declared.table.OptionName.TheVariants.{As, Parties, Dealer}
+use Rattle.cli_words.specs.declared.table.OptionName.TheVariants.{As, Parties, Dealer, Workers}
 use Rattle.cli_words.specs.declared.table.Kind.{Kind}
 use Rattle.cli_words.specs.declared.table.Kind.TheVariants as kind
 use Rattle.cli_words.specs.declared.table.Row as declared
@@ -48,7 +48,7 @@ row Deal = record {
 row Local = record {
   text = codes "local";
   words = (codes "CIRCUIT", kind.Name) ∷ (codes "VALUES", kind.Name) ∷ (codes "SEED", kind.Seed) ∷ [];
-  options = As ∷ Parties ∷ Dealer ∷ [];
+  options = As ∷ Parties ∷ Dealer ∷ Workers ∷ [];
 }
 
 -- all commands
@@ -83,10 +83,11 @@ abbrev pub option_row : OptionName → OptionRow
 option_row As = record { name = codes "as"; kind = kind.Sharing }
 option_row Parties = record { name = codes "parties"; kind = kind.Parties }
 option_row Dealer = record { name = codes "dealer"; kind = kind.Name }
+option_row Workers = record { name = codes "workers"; kind = kind.Workers }
 
 -- all options, in the order in which they are listed
 abbrev pub options : List OptionName
-options = As ∷ Parties ∷ Dealer ∷ []
+options = As ∷ Parties ∷ Dealer ∷ Workers ∷ []
 
 abbrev pub option_name : OptionName → Text
 option_name option = (option_row option).name
@@ -105,6 +106,7 @@ pub data Meaning : Type 0 where
   seed : List ℕ → Meaning
   sharing : Sharing → Meaning
   parties : ℕ → Meaning
+  workers : ℕ → Meaning
   number : ℕ → Meaning
 
 -- the number that one decimal digit or more spell, leading zeros accepted, if it lies between the two
@@ -128,6 +130,7 @@ meaning_of kind.Name text = Some (name text)
 meaning_of kind.Seed text = option_map seed (seed_of text)
 meaning_of kind.Sharing text = option_map sharing (sharing_of text)
 meaning_of kind.Parties text = option_map parties (number_between least_parties most_parties text)
+meaning_of kind.Workers text = option_map workers (number_between 1 most_workers text)
 meaning_of (kind.Number least most) text = option_map number (number_between least most text)
 
 -- What the code's row of a command says.

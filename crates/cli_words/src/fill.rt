@@ -2,18 +2,18 @@
 
 ghost use Rattle.std.specs.Prelude.{◌≡◌, ◌≤◌, ◌⊎◌, ◌-◌, ◌^◌, Some, None, map, true, option_map, option_and_then, ◌++◌, OnOk, IfSome, IfOk, IfErr, IsErrOf};
 ghost use Rattle.std.specs.Option.{option_copied};
-ghost use Rattle.mot_base.specs.Limits.{least_parties, most_parties};
+ghost use Rattle.mot_base.specs.Limits.{least_parties, most_parties, most_workers};
 ghost use Rattle.clap.specs.Words.{found_of, first_value};
 ghost use Rattle.cli_words.specs.Table.{row, row_words, meaning_of, number_between, seed_of, sharing_of};
 ghost use Rattle.cli_words.specs.Filled.{meaning_in, said_in, chosen, kept, words_found, option_found, AreFound, IsOneWrong};
-ghost use Rattle.cli_words.specs.Request.{word_as, option_as, as_name, as_seed, as_sharing, as_parties, as_number};
+ghost use Rattle.cli_words.specs.Request.{word_as, option_as, as_name, as_seed, as_sharing, as_parties, as_workers, as_number};
 
 use crate::WordsError;
 use crate::table::{Command, Kind, OptionName};
-use crate::words::{PartyCount, WireSharing};
+use crate::words::{PartyCount, WireSharing, WorkerCount};
 use clap::ArgMatches;
 use hex::FromHex;
-use mot_base::{MAX_PARTIES, MIN_PARTIES, NoMemory, Seed};
+use mot_base::{MAX_PARTIES, MAX_WORKERS, MIN_PARTIES, NoMemory, Seed};
 use share_types::Sharing;
 use std::alloc::Global;
 use text_lines::is_numeral;
@@ -25,6 +25,7 @@ pub(crate) enum Value<'a> {
     Seed(Seed),
     Sharing(WireSharing),
     Parties(PartyCount),
+    Workers(WorkerCount),
     Number(u32),
 }
 
@@ -51,6 +52,7 @@ fn value_of<'a>(kind: Kind, text: &'a str) -> Option<Value<'a>>
         Kind::Seed => Some(Value::Seed(seed(text)?)),
         Kind::Sharing => Some(Value::Sharing(sharing(text)?)),
         Kind::Parties => Some(Value::Parties(party_count(text)?)),
+        Kind::Workers => Some(Value::Workers(worker_count(text)?)),
         Kind::Number(least, most) => Some(Value::Number(number(text, least, most)?)),
     }
 }
@@ -84,6 +86,13 @@ fn party_count(text: &str) -> Option<PartyCount>
 {
     let n = number(text, u32::from(MIN_PARTIES), u32::from(MAX_PARTIES))?;
     Some(PartyCount { count: n as u8 })
+}
+
+fn worker_count(text: &str) -> Option<WorkerCount>
+    ensures { option_map (λ n. n.count) result ≡ number_between 1 most_workers text.now }
+{
+    let n = number(text, 1, u32::from(MAX_WORKERS))?;
+    Some(WorkerCount { count: n as u8 })
 }
 
 /// A number of decimal digits from `least` to `most`.
@@ -312,6 +321,20 @@ impl<'a> Filled<'a> {
         match self.option(option) {
             None => Ok(None),
             Some(Value::Parties(n)) => Ok(Some(n)),
+            Some(_) => Err(WordsError::Usage),
+        }
+    }
+
+    /// The value of an option as a number of workers, where it is there.
+    pub(crate) fn workers_of(&self, option: OptionName) -> Result<Option<WorkerCount>, WordsError>
+        ensures ok { IfOk result (λ n. option_as as_workers ((said_in self.now).option option)
+            ≡ Some (option_map (λ w. w.count) n)) }
+        ensures err { IfErr result (λ error. (error ≡ WordsError.Usage)
+            × (option_as as_workers ((said_in self.now).option option) ≡ None)) }
+    {
+        match self.option(option) {
+            None => Ok(None),
+            Some(Value::Workers(n)) => Ok(Some(n)),
             Some(_) => Err(WordsError::Usage),
         }
     }

@@ -1,6 +1,6 @@
 //! What the words of a line ask for.
 
-ghost use Rattle.std.specs.Prelude.{◌≡◌, Some, None, option_map, string_bytes, IfOk, IfErr, IsErrOf};
+ghost use Rattle.std.specs.Prelude.{◌≡◌, Some, None, option_map, unwrap_or, string_bytes, IfOk, IfErr, IsErrOf};
 ghost use Rattle.std.specs.Option.{option_copied};
 ghost use Rattle.cli_words.specs.Filled.{said_in};
 ghost use Rattle.cli_words.specs.Request.{bristol_of, plain_request, needs_request, deal_request, local_request, request_of, bristol_said, both_of, plain_said, needs_said, deal_said, local_said, request_said};
@@ -10,7 +10,7 @@ use crate::fill::Filled;
 use crate::table::{Command, OptionName};
 use crate::words::{
     BristolWords, CommandWords, DealWords, LocalWords, NeedsWords, PartyCount, PlainWords,
-    WireSharing,
+    WireSharing, WorkerCount,
 };
 use mot_base::NoMemory;
 use std::alloc::Global;
@@ -121,13 +121,25 @@ fn local_words(alloc: Global, line: &Filled<'_>) -> Result<LocalWords, WordsErro
     let seed = line.seed(2)?;
     let bristol = bristol(line)?;
     let dealer = line.name_of(OptionName::Dealer)?;
+    let workers = or_one(line.workers_of(OptionName::Workers)?);
     Ok(LocalWords {
         circuit: String::from_str(alloc, circuit)?,
         values: String::from_str(alloc, values)?,
         seed,
         bristol,
         dealer: owned(alloc, dealer)?,
+        workers: workers.count,
     })
+}
+
+/// So many workers, or one where the words say nothing of them.
+fn or_one(workers: Option<WorkerCount>) -> WorkerCount
+    ensures { result.count ≡ unwrap_or (option_map (λ w. w.count) workers) 1 }
+{
+    match workers {
+        Some(workers) => workers,
+        None => WorkerCount { count: 1 },
+    }
 }
 
 /// A copy of a text that may be there.

@@ -21,12 +21,13 @@ pub enum Command {
 /// An option. Its row says how it is spelt, and what its value has to be.
 ///
 /// `As` and `Parties` come together, and say that CIRCUIT is a Bristol text. `Dealer` is the name that the
-/// files of dealer parts begin with.
+/// files of dealer parts begin with. `Workers` is how many workers run the parties.
 #[derive(Clone, Copy, Debug)]
 pub enum OptionName {
     As,
     Parties,
     Dealer,
+    Workers,
 }
 
 /// What a word has to be.
@@ -40,6 +41,8 @@ pub(crate) enum Kind {
     Sharing,
     /// How many parties there are: 2 to 8.
     Parties,
+    /// How many workers there are: 1 to 16.
+    Workers,
     /// A number in decimal digits, from the one to the other.
     Number(u32, u32),
 }
@@ -120,7 +123,12 @@ impl Command {
                     ("VALUES", Kind::Name),
                     ("SEED", Kind::Seed),
                 ],
-                options: &[OptionName::As, OptionName::Parties, OptionName::Dealer],
+                options: &[
+                    OptionName::As,
+                    OptionName::Parties,
+                    OptionName::Dealer,
+                    OptionName::Workers,
+                ],
             },
         }
     }
@@ -147,7 +155,12 @@ impl OptionName {
     pub(crate) fn all() -> &'static [OptionName]
         ensures { result.now ≡ options }
     {
-        &[OptionName::As, OptionName::Parties, OptionName::Dealer]
+        &[
+            OptionName::As,
+            OptionName::Parties,
+            OptionName::Dealer,
+            OptionName::Workers,
+        ]
     }
 
     /// The row of the option.
@@ -171,6 +184,11 @@ impl OptionName {
                 name: "dealer",
                 flag: "--dealer",
                 kind: Kind::Name,
+            },
+            OptionName::Workers => OptionRow {
+                name: "workers",
+                flag: "--workers",
+                kind: Kind::Workers,
             },
         }
     }

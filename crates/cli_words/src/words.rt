@@ -1,7 +1,7 @@
 //! What words ask for, each command's as a struct of its own.
 
 ghost use Rattle.std.specs.Prelude.{◌≤◌, ◌≢◌};
-ghost use Rattle.mot_base.specs.Limits.{least_parties, most_parties};
+ghost use Rattle.mot_base.specs.Limits.{least_parties, most_parties, most_workers};
 ghost use Rattle.share_types.specs.declared.sharing.Sharing.TheVariants.{A};
 
 use mot_base::Seed;
@@ -86,6 +86,10 @@ pub struct LocalWords {
     pub bristol: Option<BristolWords>,
     /// What the names of the dealer parts begin with, where they are loaded.
     pub dealer: Option<String>,
+    /// How many workers run the parties: 1 to 16, and 1 where the words say nothing of them.
+    pub workers: u8,
+    pub ghost one: { 1 ≤ workers },
+    pub ghost few: { workers ≤ most_workers },
 }
 
 /// How many parties there are.
@@ -94,6 +98,14 @@ pub(crate) struct PartyCount {
     pub count: u8,
     pub ghost some: { least_parties ≤ count },
     pub ghost most: { count ≤ most_parties },
+}
+
+/// How many workers there are.
+#[derive(Clone, Copy, Debug)]
+pub(crate) struct WorkerCount {
+    pub count: u8,
+    pub ghost one: { 1 ≤ count },
+    pub ghost few: { count ≤ most_workers },
 }
 
 /// How the wires of a Bristol text are shared.

@@ -28,7 +28,7 @@ module _ (plan : Gates) (n w : ℕ) (some : 1 ≤ w) (most : w ≤ most_width) w
   }
 
   -- a mask and the masked bits behind it
-  two_fit : (mask online : Kind) → gives mask ≡ Mask → gives online ≡ Online →
+  pub two_fit : (mask online : Kind) → gives mask ≡ Mask → gives online ≡ Online →
       slice_get plan.gates n ≡ Some (gate_of mask w) → slice_get plan.gates (n + 1) ≡ Some (gate_of online w) →
       IsGate plan n (gate_of mask w) → IsGate plan (n + 1) (gate_of online w) → IsWire plan.gates n (n + 1) →
       Fits plan n w (two n w mask online) true

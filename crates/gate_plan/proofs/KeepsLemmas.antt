@@ -30,18 +30,19 @@ use Rattle.mixed_language.proofs.WidthLemmas.{circuit_wide}
 use Rattle.plan_gates.specs.Gate as plan
 use Rattle.plan_gates.specs.Gate.{Gate}
 use Rattle.plan_gates.specs.Plan.{IsPlan}
-use Rattle.plan_gates.specs.Plain.{Outside, plain_numbers, GateTold, told_entry}
+use Rattle.plan_gates.specs.Plain.{Outside, AreLawful, plain_numbers, GateTold, told_entry}
 use Rattle.plan_gates.specs.Plain as plain
 use Rattle.gate_plan.specs.declared.wire.Wire.{Wire}
 use Rattle.gate_plan.specs.Blocks.{Lowered, IsNumberOf}
-use Rattle.gate_plan.specs.Lowering.{Source, block_of, lowered_to, lowered, operand_wire, wires_of, all_built, all_gates, wire_handled, width_handled, is_keys}
+use Rattle.gate_plan.specs.Lowering.{Source, block_of, lowered_to, lowered, operand_wire, wires_of, all_gates, wire_handled, width_handled, is_keys}
 use Rattle.gate_plan.specs.Keeps.{unnamed, KeepsValues, KeepsEvaluation}
 use Rattle.gate_plan.proofs.StandLemmas.{value_width, IsShared}
 use Rattle.plan_gates.proofs.PlainLemmas.{length_plain}
 use Rattle.gate_plan.proofs.NumberLemmas.{told_from, told_by_place, told_append, told_nothing}
-use Rattle.gate_plan.proofs.OperationLemmas.{Named, Names, Tells, named, block_silent, takes_keys, gives_keys, is_by_keys, keys_taken, keys_given, Alike, law}
+use Rattle.gate_plan.proofs.OperationLemmas.{Named, Names, Tells, named, block_silent, takes_keys, gives_keys, is_by_keys, keys_taken, keys_given, is_of_word, Alike, law}
+use Rattle.gate_plan.proofs.FitLemmas.{whole_word}
 use Rattle.gate_plan.proofs.ValueLemmas.{HasBits, has_bits}
-use Rattle.gate_plan.proofs.BuiltLemmas.{built_at, handled_own, statement_of}
+use Rattle.gate_plan.proofs.HandledLemmas.{handled_own, statement_of}
 use Rattle.gate_plan.proofs.PlanLemmas.{start, source, block, next, stands, wire_in}
 use Rattle.gate_plan.proofs.ValidLemmas.{row, operand_place, earlier, operand_value, told, valid_to, lowered_is_plan}
 
@@ -61,11 +62,11 @@ keys_shared Y (wire.Y width) e = refl
 keys_shared _ _ e = cc
 
 -- the gates of an output tell one number
-output_told : (numbers : List ℕ) (keys : Bool) (v : Source) (n : ℕ) →
-    told_from (block_of Output keys v n).gates n numbers
-    ≡ record { to = v.to; bits = bits v.width (slice_index numbers (block_of Output keys v n).wire.gate) } ∷ []
-output_told numbers true v n = refl
-output_told numbers false v n = either v.is_word
+output_told : (parties : ℕ) (numbers : List ℕ) (keys : Bool) (v : Source) (n : ℕ) →
+    told_from (block_of parties Output keys v n).gates n numbers
+    ≡ record { to = v.to; bits = bits v.width (slice_index numbers (block_of parties Output keys v n).wire.gate) } ∷ []
+output_told parties numbers true v n = refl
+output_told parties numbers false v n = either v.is_word
   where
     either : (b : Bool) →
         told_from (plan.gate_of (cond b (plan.OutA v.x.gate v.to) (plan.OutB v.x.gate v.to)) v.width ∷ []) n numbers
@@ -73,8 +74,9 @@ output_told numbers false v n = either v.is_word
     either true = refl
     either false = refl
 
-module _ (c : Circuit) (circuit : IsCircuit c) (built : all_built c ≡ true) (valid : IsPlan (lowered c))
+module _ (c : Circuit) (circuit : IsCircuit c) (valid : IsPlan (lowered c))
     (outside : Outside) (values : List ℕ)
+    (lawful : AreLawful (lowered c) outside (plain_numbers (lowered c) outside))
     (evaluated : IsEvaluated c.statements outside.inputs values) where
   abbrev all : List Statement
   all = c.statements
@@ -119,55 +121,55 @@ module _ (c : Circuit) (circuit : IsCircuit c) (built : all_built c ≡ true) (v
         (width_given_by s)
 
     some_operand : (i : ℕ) → suc i ≤ arity_of s.shape.operation →
-        (o : Operand) × (slice_get (row c circuit built n s there).operands i ≡ Some o)
+        (o : Operand) × (slice_get (row c circuit n s there).operands i ≡ Some o)
     some_operand i h =
-        let r = row c circuit built n s there in
+        let r = row c circuit n s there in
         let arity = r.arity in
         some_at r.operands i (omega (arith, arity, h))
 
     -- the value at an operand's place
-    operand_is : (i : ℕ) (o : Operand) → slice_get (row c circuit built n s there).operands i ≡ Some o →
+    operand_is : (i : ℕ) (o : Operand) → slice_get (row c circuit n s there).operands i ≡ Some o →
         eval.value_at before (slice_get s.shape.operands i) ≡ slice_index values o.at
     operand_is i o e =
-        let t = earlier c circuit built n s there i o e in
-        ap (eval.value_at before) (operand_place c circuit built n s there i o e)
+        let t = earlier c circuit n s there i o e in
+        ap (eval.value_at before) (operand_place c circuit n s there i o e)
         ∙ get_or-take n values o.at 0 t.below
 
     abbrev keys : Bool
     keys = is_keys (wire_handled all s)
 
     -- whether it takes keys, from how its operands are shared
-    takes : takes_keys s.shape.operation keys ≡ is_by_keys (row c circuit built n s there).sharing
+    takes : takes_keys s.shape.operation keys ≡ is_by_keys (row c circuit n s there).sharing
     takes = by_name (named s.shape.operation)
       where
         by_name : Named s.shape.operation →
-            takes_keys s.shape.operation keys ≡ is_by_keys (row c circuit built n s there).sharing
+            takes_keys s.shape.operation keys ≡ is_by_keys (row c circuit n s there).sharing
         by_name (Names e untold) =
-            let r = row c circuit built n s there in
+            let r = row c circuit n s there in
             let w = wire_type (gives s.shape.operation r.sharing) r.width in
             let own : s.wire ≡ Some w = r.wire ∙ rw e refl in
             ap (λ o. takes_keys s.shape.operation (is_keys o)) (handled_own c n s w circuit there own).0
-            ∙ keys_taken s.shape.operation r.sharing r.width r.domain e (built_at c n s built there)
+            ∙ keys_taken s.shape.operation r.sharing r.width r.domain e
         by_name (Tells e) =
-            let t = told c circuit built n s there e in
-            let r = row c circuit built n s there in
+            let t = told c circuit n s there e in
+            let r = row c circuit n s there in
             ap (λ op. takes_keys op keys) e
             ∙ (ap is_keys t.handled ∙ keys_shared r.sharing t.operand.wire (r.uses.shared 0 t.operand t.first))
 
     -- and its gates are as wide as the value, and have its number
-    operand_has : AreKept n → (i : ℕ) (o : Operand) → slice_get (row c circuit built n s there).operands i ≡ Some o →
+    operand_has : AreKept n → (i : ℕ) (o : Operand) → slice_get (row c circuit n s there).operands i ≡ Some o →
         HasBits (lowered c) valid outside (takes_keys s.shape.operation keys)
         (operand_wire (lowered_to c n).wires (slice_get s.shape.operands i)) (width_of o.wire)
         (slice_index values o.at)
     operand_has kept i o e =
-        let r = row c circuit built n s there in
-        let t = earlier c circuit built n s there i o e in
+        let r = row c circuit n s there in
+        let t = earlier c circuit n s there i o e in
         let v : ℕ = value_of_statement all outside.inputs (take o.at values) o.at t.statement in
         let a : Wire = operand_wire (lowered_to c n).wires (slice_get s.shape.operands i) in
         let value = evaluated.each o.at t.statement t.there_at in
         let within = inside_of all n s there in
-        let shared = operand_value c circuit built n s there
-        (valid_to c circuit built n (omega (arith, within))).values i o e in
+        let shared = operand_value c circuit n s there
+        (valid_to c circuit n (omega (arith, within))).values i o e in
         let number = kept o.at t.statement t.below t.there_at v value in
         let by_wire = subst (λ (a : Wire). IsNumberOf (is_keys t.statement.wire) numbers a v) (sym t.wired) number in
         let by_keys = subst (λ (b : Bool). IsNumberOf b numbers a v)
@@ -187,10 +189,10 @@ module _ (c : Circuit) (circuit : IsCircuit c) (built : all_built c ≡ true) (v
         (eval.value_at before (slice_get s.shape.operands i))
     used kept i h =
         let o = some_operand i h in
-        let t = earlier c circuit built n s there i o.0 o.1 in
+        let t = earlier c circuit n s there i o.0 o.1 in
         let wired : wire_at all o.0.at ≡ Some o.0.wire = rw t.there_at t.own in
         let wide : eval.operand_width all (slice_get s.shape.operands i) ≡ width_of o.0.wire =
-        ap (eval.operand_width all) (operand_place c circuit built n s there i o.0 o.1)
+        ap (eval.operand_width all) (operand_place c circuit n s there i o.0 o.1)
         ∙ ap (λ w. unwrap_or (option_map width_of w) 0) wired in
         let P : ℕ → ℕ → Type 0 = λ w k. HasBits (lowered c) valid outside (takes_keys s.shape.operation keys)
         (operand_wire (lowered_to c n).wires (slice_get s.shape.operands i)) w k in
@@ -199,11 +201,21 @@ module _ (c : Circuit) (circuit : IsCircuit c) (built : all_built c ≡ true) (v
 
     named_width : states is_name_slot s.shape.operation ≡ true → width_given_by s ≡ (source c n s).width
     named_width e =
-        let r = row c circuit built n s there in
+        let r = row c circuit n s there in
         let w = wire_type (gives s.shape.operation r.sharing) r.width in
         let own : s.wire ≡ Some w = r.wire ∙ rw e refl in
         ap (λ o. unwrap_or (option_map width_of o) most_width) own
         ∙ sym (ap width_handled (handled_own c n s w circuit there own).0)
+
+    -- what is made of a word is as wide as one
+    word_whole : is_of_word s.shape.operation ≡ true → (source c n s).width ≡ most_width
+    word_whole e =
+        let r = row c circuit n s there in
+        let w = wire_type (gives s.shape.operation r.sharing) r.width in
+        let is = whole_word s.shape.operation r.sharing r.width s.shape.width s.shape.place r.operands e r.domain r.arity
+        r.uses.shared r.wide in
+        let own : s.wire ≡ Some w = r.wire ∙ rw is.0 refl in
+        ap width_handled (handled_own c n s w circuit there own).0 ∙ is.1
 
     alike : AreKept n → Alike (lowered c) valid outside s.shape.operation keys (source c n s) seen
     alike kept = record {
@@ -214,14 +226,16 @@ module _ (c : Circuit) (circuit : IsCircuit c) (built : all_built c ≡ true) (v
       width = named_width;
       place = refl;
       constant = refl;
+      low = refl;
+      whole = word_whole;
     }
 
     -- the number that an output tells is cut by neither width
     told_whole : (e : s.shape.operation ≡ Output) →
         number_made s.shape.operation seen % 2 ^ (source c n s).width ≡ slice_index values (told_value s)
     told_whole e =
-        let t = told c circuit built n s there e in
-        let is = earlier c circuit built n s there 0 t.operand t.first in
+        let t = told c circuit n s there e in
+        let is = earlier c circuit n s there 0 t.operand t.first in
         let small = value_fits t.operand.at t.operand.wire (rw is.there_at is.own) in
         let made : number_made s.shape.operation seen ≡ slice_index values t.operand.at =
         ap (λ op. number_made op seen) e ∙ operand_is 0 t.operand t.first in
@@ -231,8 +245,8 @@ module _ (c : Circuit) (circuit : IsCircuit c) (built : all_built c ≡ true) (v
     told_value_is : (e : s.shape.operation ≡ Output) →
         value_of_statement all outside.inputs before n s ≡ slice_index values (told_value s)
     told_value_is e =
-        let t = told c circuit built n s there e in
-        let is = earlier c circuit built n s there 0 t.operand t.first in
+        let t = told c circuit n s there e in
+        let is = earlier c circuit n s there 0 t.operand t.first in
         let wired : wire_at all t.operand.at ≡ Some t.operand.wire = rw is.there_at is.own in
         let small = value_fits t.operand.at t.operand.wire wired in
         let wide = (circuit_wide c circuit t.operand.at t.operand.wire wired).1 in
@@ -248,14 +262,14 @@ module _ (c : Circuit) (circuit : IsCircuit c) (built : all_built c ≡ true) (v
       where
         by_name : Named s.shape.operation → gives_keys s.shape.operation keys ≡ is_keys s.wire
         by_name (Names e untold) =
-            let r = row c circuit built n s there in
+            let r = row c circuit n s there in
             let w = wire_type (gives s.shape.operation r.sharing) r.width in
             let own : s.wire ≡ Some w = r.wire ∙ rw e refl in
             ap (λ o. gives_keys s.shape.operation (is_keys o)) (handled_own c n s w circuit there own).0
-            ∙ (keys_given s.shape.operation r.sharing r.width r.domain e (built_at c n s built there)
+            ∙ (keys_given s.shape.operation r.sharing r.width r.domain e
             ∙ sym (ap is_keys own))
         by_name (Tells e) =
-            let t = told c circuit built n s there e in
+            let t = told c circuit n s there e in
             ap (λ op. gives_keys op keys) e ∙ sym (ap is_keys t.unnamed)
 
     -- the number of the statement's wire is its value
@@ -263,7 +277,7 @@ module _ (c : Circuit) (circuit : IsCircuit c) (built : all_built c ≡ true) (v
         IsNumberOf (is_keys s.wire) numbers (block c n s).wire value
     gate_value kept value e =
         let made = law (lowered c) valid outside s.shape.operation keys (source c n s) (start c n) seen
-        (built_at c n s built there) (alike kept) (stands c n s there) in
+        lawful (alike kept) (stands c n s there) in
         let whole : number_made s.shape.operation seen % 2 ^ (source c n s).width ≡ value =
         by_name (named s.shape.operation) ∙ same_some _ value (sym (evaluated.each n s there) ∙ e) in
         let by_keys = subst (λ (b : Bool). IsNumberOf b numbers (block c n s).wire
@@ -293,12 +307,12 @@ module _ (c : Circuit) (circuit : IsCircuit c) (built : all_built c ≡ true) (v
             told_from (block c n s).gates (start c n) numbers ≡ map unnamed (told_by all values s)
         by_name (Names e untold) =
             told_nothing (block c n s).gates (start c n) numbers
-            (block_silent s.shape.operation keys (source c n s) (start c n)
-            (built_at c n s built there) untold)
+            (block_silent c.parties s.shape.operation keys (source c n s) (start c n)
+            untold)
             ∙ sym (ap (λ b. map unnamed (cond b (tell ∷ []) [])) untold)
         by_name (Tells e) =
-            let t = told c circuit built n s there e in
-            let is = earlier c circuit built n s there 0 t.operand t.first in
+            let t = told c circuit n s there e in
+            let is = earlier c circuit n s there 0 t.operand t.first in
             let wired : wire_at all t.operand.at ≡ Some t.operand.wire = rw is.there_at is.own in
             let wide : (source c n s).width ≡ table.width_at all (told_value s) =
             ap width_handled t.handled
@@ -312,13 +326,13 @@ module _ (c : Circuit) (circuit : IsCircuit c) (built : all_built c ≡ true) (v
             let number : slice_index numbers (block c n s).wire.gate ≡ slice_index values (told_value s) =
             index_at numbers (block c n s).wire.gate _ gate ∙ told_value_is e in
             let Q : Operation → Type 0 = λ op.
-            told_from (block_of op keys (source c n s) (start c n)).gates (start c n) numbers
+            told_from (block_of c.parties op keys (source c n s) (start c n)).gates (start c n) numbers
             ≡ record {
               to = (source c n s).to;
               bits = bits (source c n s).width
-                  (slice_index numbers (block_of op keys (source c n s) (start c n)).wire.gate);
+                  (slice_index numbers (block_of c.parties op keys (source c n s) (start c n)).wire.gate);
             } ∷ [] in
-            subst Q (sym e) (output_told numbers keys (source c n s) (start c n))
+            subst Q (sym e) (output_told c.parties numbers keys (source c n s) (start c n))
             ∙ (ap₂ (λ (w k : ℕ). record { to = receiver_of s.shape.party; bits = bits w k } ∷ []) wide number
             ∙ sym (ap (λ op. map unnamed (cond (states is_told_slot op) (tell ∷ []) [])) e))
 
@@ -375,7 +389,7 @@ module _ (c : Circuit) (circuit : IsCircuit c) (built : all_built c ≡ true) (v
           ∙ (told_to (length all) (omega arith) ∙ ap (λ ss. map unnamed (told_among all values ss))
           (take_whole all (length all) (omega arith)))
 
-pub keeps_evaluation : (c : Circuit) → IsCircuit c → all_built c ≡ true → all_gates c ≤ most_gates →
+pub keeps_evaluation : (c : Circuit) → IsCircuit c → all_gates c ≤ most_gates →
     KeepsEvaluation c (lowered c)
-keeps_evaluation c circuit built few outside values evaluated =
-    keeps_values c circuit built (lowered_is_plan c circuit built few) outside values evaluated
+keeps_evaluation c circuit few outside values lawful evaluated =
+    keeps_values c circuit (lowered_is_plan c circuit few) outside values lawful evaluated

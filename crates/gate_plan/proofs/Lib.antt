@@ -1,11 +1,16 @@
+pub mod ChainLemmas
 pub mod StandLemmas
 pub mod NumberLemmas
+pub mod LawfulLemmas
 pub mod BlockLemmas
 pub mod ValueLemmas
+pub mod AdderLemmas
+pub mod AdderFitLemmas
+pub mod PartsLemmas
+pub mod PartsFitLemmas
 pub mod OperationLemmas
 pub mod FitLemmas
 pub mod HandledLemmas
-pub mod BuiltLemmas
 pub mod PlanLemmas
 pub mod ValidLemmas
 pub mod KeepsLemmas
@@ -18,3 +23,5 @@ pub mod BristolPlanLemmas
 pub mod BristolValidLemmas
 pub mod BristolKeepsLemmas
 pub mod BristolCodeLemmas
+pub mod AdderCodeLemmas
+pub mod PartsCodeLemmas

@@ -40,7 +40,7 @@ module _ (gates : List Gate) (outside : Outside) where
       ∙ sym (index_at (plain_before gates outside n) x (own x) (plain_at n x (omega arith)))
 
 -- the operands of a gate of a valid plan stand before it
-operand_before : (plan : Gates) → IsPlan plan → (g : ℕ) (gate : Gate) → slice_get plan.gates g ≡ Some gate →
+pub operand_before : (plan : Gates) → IsPlan plan → (g : ℕ) (gate : Gate) → slice_get plan.gates g ≡ Some gate →
     (k x : ℕ) →
     slice_get (operands gate.kind) k ≡ Some x → x < g
 operand_before plan valid g gate there k x e =

@@ -1,15 +1,14 @@
 -- The gates and the wires of a circuit's statements, one statement after another.
-use Rattle.std.proofs.Common.{ℕ, zero, suc, ◌≡◌, ◌<◌, ◌≤◌, ◌+◌, true, [], ◌∷◌, ◌++◌, length, Some, inl, inr, refl, sym, ◌∙◌, ap, subst, arith}
+use Rattle.std.proofs.Common.{ℕ, zero, suc, ◌≡◌, ◌<◌, ◌≤◌, ◌+◌, [], ◌∷◌, ◌++◌, length, Some, inl, inr, refl, sym, ◌∙◌, ap, subst, arith}
 use Rattle.std.specs.Prelude.{slice_get}
 use Rattle.std.proofs.lemmas.Bool.{cases_lt}
 use Rattle.std.proofs.lemmas.List.{length-append}
 use Rattle.mot_base.proofs.Lists.{inside_of, some_at, behind_at, last_at}
 use Rattle.mixed_language.specs.Circuit.{Circuit, Statement}
 use Rattle.gate_plan.specs.Blocks.{Block, Lowered, with_block, Stand}
-use Rattle.gate_plan.specs.Lowering.{Source, block_of, source_of, block_at, lowered_to, lowered, all_built, wire_handled, is_keys, gates_in, gates_before}
+use Rattle.gate_plan.specs.Lowering.{Source, block_of, source_of, block_at, lowered_to, lowered, wire_handled, is_keys, gates_in, gates_before}
 use Rattle.gate_plan.proofs.StandLemmas.{grown}
 use Rattle.gate_plan.proofs.OperationLemmas.{block_count}
-use Rattle.gate_plan.proofs.BuiltLemmas.{built_at}
 
 -- the number of the first gate of the statement at a place, what its gates are made of, and the gates
 -- themselves
@@ -20,7 +19,7 @@ abbrev pub source : Circuit → ℕ → Statement → Source
 source c n s = source_of c n (lowered_to c n).wires s
 
 abbrev pub block : Circuit → ℕ → Statement → Block
-block c n s = block_of s.shape.operation (is_keys (wire_handled c.statements s)) (source c n s) (start c n)
+block c n s = block_of c.parties s.shape.operation (is_keys (wire_handled c.statements s)) (source c n s) (start c n)
 
 pub next : (c : Circuit) (n : ℕ) (s : Statement) → slice_get c.statements n ≡ Some s →
     lowered_to c (suc n) ≡ with_block (lowered_to c n) (block c n s)
@@ -68,17 +67,16 @@ next_start c n s there =
     ap (λ (l : Lowered). length l.gates) (next c n s there) ∙ length-append (lowered_to c n).gates
     (block c n s).gates
 
-pub count : (c : Circuit) (n : ℕ) → all_built c ≡ true → n ≤ length c.statements →
+pub count : (c : Circuit) (n : ℕ) → n ≤ length c.statements →
     start c n ≡ gates_before c.parties c.statements n
-count c zero built h = refl
-count c (suc n) built h =
+count c zero h = refl
+count c (suc n) h =
     let here = some_at c.statements n (omega (arith, h)) in
-    let before = count c n built (omega (arith, h)) in
+    let before = count c n (omega (arith, h)) in
     let more = next_start c n here.0 here.1 in
     let own : length (block c n here.0).gates ≡ gates_in c.parties c.statements (slice_get c.statements n) =
     block_count c.parties here.0.shape.operation (is_keys (wire_handled c.statements here.0))
     (source c n here.0) (start c n)
-    (built_at c n here.0 built here.1)
     ∙ sym (ap (gates_in c.parties c.statements) here.1) in
     omega (arith, before, more, own)
 

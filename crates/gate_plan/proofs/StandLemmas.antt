@@ -1,11 +1,11 @@
 -- The gates of a finished plan, part by part.
-use Rattle.std.proofs.Common.{ℕ, zero, suc, ◌≡◌, ◌<◌, ◌≤◌, ◌+◌, ◌-◌, ◌*◌, ◌^◌, Bool, true, false, List, [], ◌∷◌, ◌++◌, length, map, Some, inl, inr, refl, sym, ◌∙◌, ap, subst, arith}
+use Rattle.std.proofs.Common.{ℕ, zero, suc, ◌≡◌, ◌<◌, ◌≤◌, ◌+◌, ◌-◌, ◌*◌, ◌^◌, Bool, true, false, List, [], ◌∷◌, ◌++◌, length, map, take, drop, Some, inl, inr, refl, sym, ◌∙◌, ap, subst, arith}
 use Rattle.std.specs.Prelude.{slice_get, IfSome, option_map}
 use Rattle.std.specs.Option.{unwrap_or}
 use Rattle.std.specs.List.{AllByRecursion}
 use Rattle.std.proofs.lemmas.Bool.{cases_lt}
 use Rattle.mot_base.specs.Limits.{most_width}
-use Rattle.mot_base.proofs.Lists.{same_some, inside_of, before_at, behind_at}
+use Rattle.mot_base.proofs.Lists.{same_some, inside_of, before_at, behind_at, taken_at}
 use Rattle.std.proofs.lemmas.List.{length-append}
 use Rattle.share_types.specs.declared.sharing.Sharing.{Sharing}
 use Rattle.share_types.specs.declared.sharing.Sharing.TheVariants.{A, B, Y}
@@ -221,3 +221,29 @@ all_row plan n size (suc count) f each fits =
     let size_is = length_row size count f each in
     all_both plan n (in_row count f) (n + size * count) (f count) (omega arith)
     (all_row plan n size count f each (λ i h. fits i (omega arith))) (fits count (omega arith))
+
+-- ---- a piece of some gates
+
+dropped : {X : Type 0} (xs : List X) (k i : ℕ) → slice_get (drop k xs) i ≡ slice_get xs (k + i)
+dropped xs zero i = let e : i ≡ 0 + i = omega arith in ap (slice_get xs) e
+dropped [] (suc k) i = refl
+dropped (x ∷ xs) (suc k) i =
+    let e : suc (k + i) ≡ suc k + i = omega arith in dropped xs k i ∙ ap (slice_get (x ∷ xs)) e
+
+-- so many of them, from a place on
+pub piece : (gates all : List Gate) (n k size m : ℕ) → m ≡ n + k → Stand gates n all →
+    Stand gates m (take size (drop k all))
+piece gates all n k size m place stand i gate e =
+    let inside = taken_at (drop k all) size i gate e in
+    let here : n + (k + i) ≡ m + i = omega (arith, place) in
+    subst (λ j. slice_get gates j ≡ Some gate) here (stand (k + i) gate (sym (dropped all k i) ∙ inside.1))
+
+-- those behind others
+pub stand_front : (gates xs ys : List Gate) (n : ℕ) → Stand gates n (xs ++ ys) → Stand gates n xs
+stand_front gates xs ys n stand i gate e =
+    stand i gate (before_at xs ys i (inside_of xs i gate e) ∙ e)
+
+pub stand_back : (gates xs ys : List Gate) (n m : ℕ) → m ≡ n + length xs → Stand gates n (xs ++ ys) → Stand gates m ys
+stand_back gates xs ys n m place stand i gate e =
+    let here : n + (length xs + i) ≡ m + i = omega (arith, place) in
+    subst (λ j. slice_get gates j ≡ Some gate) here (stand (length xs + i) gate (behind_at xs ys i ∙ e))

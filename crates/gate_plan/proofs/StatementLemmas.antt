@@ -11,15 +11,19 @@ use Rattle.mixed_language.specs.declared.language.Operation.{Operation}
 use Rattle.mixed_language.specs.declared.language.Operation.TheVariants.{ConstBits}
 use Rattle.mixed_language.specs.Language.{domain_of, widths_of, is_in, gives, states, is_name_slot}
 use Rattle.mixed_language.specs.Operands.{width_by}
-use Rattle.mixed_language.specs.Circuit.{Circuit, Statement, Shape}
+use Rattle.mixed_language.specs.declared.form.Form.{Form}
+use Rattle.mixed_language.specs.Circuit.{Circuit, Statement, Shape, shape_of}
+use Rattle.mixed_language.specs.Eval.{operand_width}
 use Rattle.mixed_language.specs.Valid.{IsStatement, IsCircuit}
 use Rattle.mixed_language.specs.Table.{inputs_of}
 use Rattle.plan_gates.specs.Plan.{Gates, with_gates}
 use Rattle.gate_plan.specs.declared.wire.Wire.{Wire}
+use Rattle.gate_plan.specs.declared.statement.Setting.{Setting}
 use Rattle.gate_plan.specs.Blocks.{Block, Lowered}
-use Rattle.gate_plan.specs.Lowering.{block_of, operand_wire, source_from, lowered_to, draft_to, wire_handled, is_keys, all_built, all_gates}
+use Rattle.gate_plan.specs.Statements.{block_in}
+use Rattle.gate_plan.specs.Lowering.{block_of, operand_wire, source_from, lowered_to, draft_to, wire_handled, is_keys, all_gates}
 use Rattle.gate_plan.proofs.OperationLemmas.{Named, Names, Tells, named}
-use Rattle.gate_plan.proofs.BuiltLemmas.{handled_own}
+use Rattle.gate_plan.proofs.HandledLemmas.{handled_own}
 use Rattle.gate_plan.proofs.PlanLemmas.{start, block, next, next_start, count, gates_rise}
 use Rattle.gate_plan.proofs.ValidLemmas.{told}
 
@@ -29,7 +33,7 @@ pub if_ok : {X E : Type 0} (r : Result X E) (P Q : X → Type 0) →
 if_ok (Ok value) P Q f h = f value h
 if_ok (Err e) P Q f h = tt
 
-module _ (c : Circuit) (circuit : IsCircuit c) (built : all_built c ≡ true) (n : ℕ) (s : Statement)
+module _ (c : Circuit) (circuit : IsCircuit c) (n : ℕ) (s : Statement)
     (there : slice_get c.statements n ≡ Some s) where
   abbrev all : List Statement
   all = c.statements
@@ -47,7 +51,7 @@ module _ (c : Circuit) (circuit : IsCircuit c) (built : all_built c ≡ true) (n
           let own : s.wire ≡ Some w = row.wire ∙ rw e refl in
           (w, (handled_own c n s w circuit there own).0)
       by_name (Tells e) =
-          let t = told c circuit built n s there e in
+          let t = told c circuit n s there e in
           (t.operand.wire, t.handled)
 
   -- a constant of bits has the width of its line
@@ -72,30 +76,30 @@ module _ (c : Circuit) (circuit : IsCircuit c) (built : all_built c ≡ true) (n
       of_bits B e = refl
       of_bits Y e = refl
 
-  -- the block that the code makes, from the shape, the wires of the operands, the number of inputs before
-  -- it, and the value handled
-  pub code_block : (shape : Shape) (x y : Wire) (k : ℕ) (w : WireType) (draft : Gates) →
-      s.shape ≡ shape → x ≡ operand_wire (lowered_to c n).wires (slice_get shape.operands 0) →
-      y ≡ operand_wire (lowered_to c n).wires (slice_get shape.operands 1) →
-      k ≡ length (inputs_of (take n all)) →
+  -- the block that the code makes, from the form, its setting, and the value handled
+  pub code_block : (form : Form) (setting : Setting) (w : WireType) (draft : Gates) →
+      s.shape ≡ shape_of form → setting.parties ≡ c.parties →
+      setting.x ≡ operand_wire (lowered_to c n).wires (slice_get (shape_of form).operands 0) →
+      setting.y ≡ operand_wire (lowered_to c n).wires (slice_get (shape_of form).operands 1) →
+      setting.k ≡ length (inputs_of (take n all)) →
+      setting.low ≡ operand_width all (slice_get (shape_of form).operands 0) →
       Some w ≡ wire_handled all s → draft ≡ draft_to c n →
-      block_of shape.operation (is_keys (Some w)) (source_from shape x y k (Some w)) (length draft.gates) ≡ block c n s
-  code_block shape x y k w draft same first second inputs wired before =
+      block_in setting form w (length draft.gates) ≡ block c n s
+  code_block form setting w draft same parties first second inputs low wired before =
       let wires = (lowered_to c n).wires in
-      let a = operand_wire wires (slice_get shape.operands 0) in
-      let b = operand_wire wires (slice_get shape.operands 1) in
-      ap₂ (λ (p q : Wire). block_of shape.operation (is_keys (Some w)) (source_from shape p q k (Some w))
-      (length draft.gates)) first second
-      ∙ (ap₂ (λ (m : ℕ) (o : Option WireType). block_of shape.operation (is_keys o) (source_from shape a b m o)
-      (length draft.gates)) inputs wired
-      ∙ (ap (λ (p : Gates). block_of shape.operation (is_keys (wire_handled all s))
-      (source_from shape a b (length (inputs_of (take n all))) (wire_handled all s)) (length p.gates))
-      before
-      ∙ ap (λ (sh : Shape). block_of sh.operation (is_keys (wire_handled all s))
-      (source_from sh (operand_wire wires (slice_get sh.operands 0))
+      let made : Shape → ℕ → Wire → Wire → ℕ → Option WireType → ℕ → ℕ → Block =
+      λ sh ps x y k o l m. block_of ps sh.operation (is_keys o) (source_from sh x y k o l) m in
+      let sh : Shape = shape_of form in
+      let a = operand_wire wires (slice_get sh.operands 0) in
+      let b = operand_wire wires (slice_get sh.operands 1) in
+      ap₂ (λ (p q : Wire). made sh setting.parties p q setting.k (Some w) setting.low (length draft.gates)) first second
+      ∙ (ap₂ (λ (m : ℕ) (o : Option WireType). made sh setting.parties a b m o setting.low (length draft.gates)) inputs wired
+      ∙ (ap₂ (λ (ps l : ℕ). made sh ps a b (length (inputs_of (take n all))) (wire_handled all s) l (length draft.gates)) parties low
+      ∙ (ap (λ (p : Gates). made sh c.parties a b (length (inputs_of (take n all))) (wire_handled all s)
+      (operand_width all (slice_get sh.operands 0)) (length p.gates)) before
+      ∙ ap (λ (sh : Shape). made sh c.parties (operand_wire wires (slice_get sh.operands 0))
       (operand_wire wires (slice_get sh.operands 1)) (length (inputs_of (take n all)))
-      (wire_handled all s))
-      (start c n)) (sym same)))
+      (wire_handled all s) (operand_width all (slice_get sh.operands 0)) (start c n)) (sym same))))
 
   -- and room for it
   pub room : (draft : Gates) (made : Block) → all_gates c ≤ most_gates → draft ≡ draft_to c n →
@@ -105,7 +109,7 @@ module _ (c : Circuit) (circuit : IsCircuit c) (built : all_built c ≡ true) (n
       let first = ap (λ (p : Gates). length p.gates) before in
       let own = ap (λ (b : Block). length b.gates) is in
       let more = next_start c n s there in
-      let all_to = count c (suc n) built (omega (arith, within)) in
+      let all_to = count c (suc n) (omega (arith, within)) in
       let rise = gates_rise c (suc n) (length all) (omega (arith, within)) in
       omega (arith, few, first, own, more, all_to, rise)
 

@@ -1,5 +1,5 @@
--- The plan of a circuit whose statements are built is valid.
-use Rattle.std.proofs.Common.{ℕ, zero, suc, ◌≡◌, ◌<◌, ◌≤◌, true, cond, List, length, take, Option, Some, None, inl, inr, refl, sym, ◌∙◌, ap, subst, arith}
+-- The plan of a circuit is valid.
+use Rattle.std.proofs.Common.{ℕ, zero, suc, ◌≡◌, ◌<◌, ◌≤◌, cond, List, length, take, Option, Some, None, inl, inr, refl, sym, ◌∙◌, ap, subst, arith}
 use Rattle.std.specs.Prelude.{slice_get, IfSome, option_map}
 use Rattle.std.specs.Option.{unwrap_or}
 use Rattle.std.proofs.lemmas.Bool.{cases_lt}
@@ -16,15 +16,16 @@ use Rattle.mixed_language.specs.Language.{gives, states, is_name_slot, arity_of}
 use Rattle.mixed_language.specs.Circuit.{Circuit, Statement, wire_at}
 use Rattle.mixed_language.specs.Valid.{IsStatement, IsCircuit}
 use Rattle.mixed_language.specs.Table.{told_value, receiver_of}
+use Rattle.mixed_language.specs.Eval.{operand_width}
 use Rattle.mixed_language.proofs.WidthLemmas.{circuit_wide}
 use Rattle.plan_gates.specs.Plan.{Gates, IsGate, IsPlan}
 use Rattle.gate_plan.specs.declared.wire.Wire.{Wire}
 use Rattle.gate_plan.specs.Blocks.{Lowered, single, Stand}
-use Rattle.gate_plan.specs.Lowering.{block_of, operand_wire, lowered_to, lowered, wire_handled, width_handled, handled_by, is_keys, is_word, all_built, all_gates}
+use Rattle.gate_plan.specs.Lowering.{block_of, operand_wire, lowered_to, lowered, wire_handled, width_handled, handled_by, is_keys, is_word, all_gates}
 use Rattle.gate_plan.proofs.StandLemmas.{IsShared, later_shared, AllGates, all_none, all_both}
 use Rattle.gate_plan.proofs.OperationLemmas.{Named, Names, Tells, named}
 use Rattle.gate_plan.proofs.FitLemmas.{shared_same, Sound, fit, output_fits, one_operand}
-use Rattle.gate_plan.proofs.BuiltLemmas.{built_at, handled_own, statement_of}
+use Rattle.gate_plan.proofs.HandledLemmas.{handled_own, statement_of}
 use Rattle.gate_plan.proofs.PlanLemmas.{start, source, block, next, stands, wire_in, next_start, count}
 
 party_some : (parties : ℕ) (o : Option ℕ) → 0 < parties → IfSome o (λ party. party < parties) →
@@ -42,7 +43,7 @@ own_sharing A width = refl
 own_sharing B width = refl
 own_sharing Y width = refl
 
-module _ (c : Circuit) (circuit : IsCircuit c) (built : all_built c ≡ true) where
+module _ (c : Circuit) (circuit : IsCircuit c) where
   abbrev all : List Statement
   all = c.statements
 
@@ -98,6 +99,13 @@ module _ (c : Circuit) (circuit : IsCircuit c) (built : all_built c ≡ true) wh
         (subst (λ (given : Sharing). IsShared given plan.gates (start c n) (block c o.at t.statement).wire (width_of o.wire))
         (shared_same row.sharing o.wire (row.uses.shared i o e)) is)
 
+    -- and its width
+    operand_low : (o : Operand) → slice_get row.operands 0 ≡ Some o → (source c n s).low ≡ width_of o.wire
+    operand_low o e =
+        let t = earlier 0 o e in
+        let wired : wire_at all o.at ≡ Some o.wire = rw t.there_at t.own in
+        ap (operand_width all) (operand_place 0 o e) ∙ ap (λ w. unwrap_or (option_map width_of w) 0) wired
+
     sound : AreValues n → Sound plan (start c n) s.shape.operation row.sharing
         (source c n s) s.shape.width row.operands row.width
     sound values = record {
@@ -111,6 +119,8 @@ module _ (c : Circuit) (circuit : IsCircuit c) (built : all_built c ≡ true) wh
       to = told_some c.parties s.shape.party row.numbers.party;
       constant = row.numbers.fits;
       bare = row.numbers.no_width;
+      low = λ o e. operand_low o e;
+      operand_wide = λ o e. let t = earlier 0 o e in circuit_wide c circuit o.at o.wire (rw t.there_at t.own);
     }
 
     -- how the value is shared that an output tells
@@ -156,7 +166,7 @@ module _ (c : Circuit) (circuit : IsCircuit c) (built : all_built c ≡ true) wh
         let same : (source c n s).width ≡ width_of w = ap width_handled handled in
         let f = fit plan (start c n) op (is_keys (wire_handled all s)) row.sharing
         (source c n s) s.shape.width row.operands row.width row.domain e
-        (built_at c n s built there) (ap is_keys handled) (sound values) (omega (arith, some, same))
+        (ap is_keys handled) (sound values) (omega (arith, some, same))
         (omega (arith, most, same)) same
         (stands c n s there) in
         let a = (block c n s).wire in
@@ -186,12 +196,12 @@ module _ (c : Circuit) (circuit : IsCircuit c) (built : all_built c ≡ true) wh
         subst (λ (g : Sharing). IsShared g plan.gates (start c n) (source c n s).x (width_of w))
         (sym shared) value in
         record {
-          gates = subst (λ op. AllGates plan (start c n) (block_of op keys (source c n s) (start c n)).gates)
+          gates = subst (λ op. AllGates plan (start c n) (block_of c.parties op keys (source c n s) (start c n)).gates)
               (sym e)
               (output_fits plan (start c n) keys (source c n s) w (ap is_keys t.handled) known wide
               (told_some c.parties s.shape.party row.numbers.party) (ap is_word t.handled)
               (ap width_handled t.handled)
-              (subst (λ op. Stand plan.gates (start c n) (block_of op keys (source c n s) (start c n)).gates) e
+              (subst (λ op. Stand plan.gates (start c n) (block_of c.parties op keys (source c n s) (start c n)).gates) e
               (stands c n s there)));
           value = λ u own. let contrary = sym own ∙ t.unnamed in cc;
         }
@@ -244,7 +254,7 @@ module _ (c : Circuit) (circuit : IsCircuit c) (built : all_built c ≡ true) wh
   lowered_is_plan few = record {
     some_parties = circuit.some_parties;
     most_parties = circuit.most_parties;
-    few = (let all = count c (length c.statements) built (omega arith) in omega (arith, all, few));
+    few = (let all = count c (length c.statements) (omega arith) in omega (arith, all, few));
     each = λ g gate there.
         subst (λ k. IsGate (lowered c) k gate) (omega arith)
         ((valid_to (length c.statements) (omega arith)).gates.each g gate there);

@@ -3,14 +3,14 @@ use Rattle.std.proofs.Common.{ℕ, ◌≡◌, ◌<◌, ◌+◌, ◌*◌, ◌/◌
 use Rattle.std.specs.Prelude.{slice_get, slice_index, bit_and, bit_xor}
 use Rattle.std.specs.Int.Bits.{xor_assoc, xor_zero_l}
 use Rattle.std.proofs.Math.Nat.{mod-lt, mod-mod, mod-eq_of_lt}
-use Rattle.std.proofs.lemmas.Nat.{xor_comm, xor_mod, xor_shr, xor_block, pow_pos}
+use Rattle.std.proofs.lemmas.Nat.{xor_comm, xor_mod, xor_shr, xor_block, xor_lt, pow_pos}
 use Rattle.mot_base.proofs.Lists.{index_at}
 use Rattle.share_types.specs.declared.receiver.Receiver.{Receiver}
 use Rattle.plan_gates.specs.Gate.{Kind, Gate, Given, gate_of, InB, ConstB, XorB, XorConstB, SliceB, JoinB, AndB, OutB, KeyMask, ConstMask, XorMask, FlipMask, SliceMask, JoinMask, InOnline, ZeroOnline, XorOnline, SliceOnline, JoinOnline, Garble, EvalY, YToB, width_at}
 use Rattle.plan_gates.specs.Plan.{Gates, IsPlan}
 use Rattle.plan_gates.specs.Plain.{Outside, number_of, seen_of, plain_numbers}
 use Rattle.gate_plan.specs.declared.wire.Wire.{Wire}
-use Rattle.gate_plan.specs.Blocks.{one, two, entered, constant, xored, anded, flipped, sliced, joined, told, Stand, AreNumbers, IsNumberOf}
+use Rattle.gate_plan.specs.Blocks.{one, two, entered, constant, xored, anded, flipped, sliced, joined, told, Stand, AreNumbers, IsNumberOf, HasKeys}
 use Rattle.gate_plan.proofs.StandLemmas.{first_of, IsValue, value_width, AreBits}
 use Rattle.gate_plan.proofs.NumberLemmas.{plans_have_numbers}
 
@@ -50,19 +50,10 @@ module _ (plan : Gates) (valid : IsPlan plan) (outside : Outside) where
       (subst (λ k. k < 2 ^ is.gate.width) (sym (index_at numbers x _ (are x is.gate is.there)))
       (mod-lt _ (pow_pos is.gate.width)))
 
-  -- a wire that is shared as keys: both gates have a width, and the XOR of their numbers is a number
-  pub record HasKeys (a : Wire) (width x : ℕ) : Type 0 where
-    pub mask_width : width_at plan.gates a.mask ≡ width
-    pub online_width : width_at plan.gates a.gate ≡ width
-    pub online_there : slice_get numbers a.gate ≡ Some (index a.gate)
-    pub mask_small : index a.mask < 2 ^ width
-    pub online_small : index a.gate < 2 ^ width
-    pub is : bit_xor (index a.mask) (index a.gate) ≡ x
-
   -- bits that are shared as keys or by XOR
   abbrev pub HasBits : Bool → Wire → ℕ → ℕ → Type 0
   HasBits false a width x = (index a.gate ≡ x) × (width_at plan.gates a.gate ≡ width)
-  HasBits true a width x = HasKeys a width x
+  HasBits true a width x = HasKeys plan.gates numbers a width x
 
   pub has_bits : (keys : Bool) (bound : ℕ) (a : Wire) (width x : ℕ) → AreBits keys plan.gates bound a width →
       IsNumberOf keys numbers a x → HasBits keys a width x
@@ -70,6 +61,7 @@ module _ (plan : Gates) (valid : IsPlan plan) (outside : Outside) where
   has_bits true bound a width x is (mask, online, first, second, whole) = record {
     mask_width = value_width is.mask;
     online_width = value_width is.online;
+    mask_there = first ∙ ap (λ (k : ℕ). Some k) (sym (index_at numbers a.mask mask first));
     online_there = second ∙ ap (λ (k : ℕ). Some k) (sym (index_at numbers a.gate online second));
     mask_small = small is.mask;
     online_small = small is.online;
@@ -84,7 +76,7 @@ module _ (plan : Gates) (valid : IsPlan plan) (outside : Outside) where
       are n (gate_of kind w) (first_of plan.gates n (gate_of kind w) [] stand) ∙ ap (λ (k : ℕ). Some (k % 2 ^ w)) (sym is)
 
   -- a mask and masked bits whose numbers, before they are cut, have this XOR
-  two_made : (n w : ℕ) (mask online : Kind) (number : ℕ) → Stand plan.gates n (two n w mask online).gates →
+  pub two_made : (n w : ℕ) (mask online : Kind) (number : ℕ) → Stand plan.gates n (two n w mask online).gates →
       number ≡ bit_xor (number_of mask (seen_of plan.gates outside numbers mask))
       (number_of online (seen_of plan.gates outside numbers online)) →
       IsNumberOf true numbers (two n w mask online).wire (number % 2 ^ w)
@@ -207,3 +199,66 @@ module _ (plan : Gates) (valid : IsPlan plan) (outside : Outside) where
       are (n + 1) output (stand 1 output refl)
       ∙ ap (λ (k : ℕ). Some (k % 2 ^ w)) (index_at numbers n _ first)
       ∙ (ap (λ (k : ℕ). Some k) (mod-mod (bit_xor (index a.mask) (index a.gate)) (2 ^ w)) ∙ ap (λ (k : ℕ). Some (k % 2 ^ w)) p.is)
+
+  -- ---- wires whose gates stand
+
+  there_small : (g w : ℕ) (kind : Kind) → slice_get plan.gates g ≡ Some (gate_of kind w) → index g < 2 ^ w
+  there_small g w kind there =
+      subst (λ k. k < 2 ^ w) (sym (index_at numbers g _ (are g (gate_of kind w) there))) (mod-lt _ (pow_pos w))
+
+  there_wide : (g w : ℕ) (kind : Kind) → slice_get plan.gates g ≡ Some (gate_of kind w) → width_at plan.gates g ≡ w
+  there_wide g w kind there = rw there refl
+
+  keys_there : (a : Wire) (w x : ℕ) (mask online : Kind) → slice_get plan.gates a.mask ≡ Some (gate_of mask w) →
+      slice_get plan.gates a.gate ≡ Some (gate_of online w) → IsNumberOf true numbers a x → HasKeys plan.gates numbers a w x
+  keys_there a w x mask online first second (m, o, f, g, whole) = record {
+    mask_width = there_wide a.mask w mask first;
+    online_width = there_wide a.gate w online second;
+    mask_there = f ∙ ap (λ (k : ℕ). Some k) (sym (index_at numbers a.mask m f));
+    online_there = g ∙ ap (λ (k : ℕ). Some k) (sym (index_at numbers a.gate o g));
+    mask_small = there_small a.mask w mask first;
+    online_small = there_small a.gate w online second;
+    is = ap₂ bit_xor (index_at numbers a.mask m f) (index_at numbers a.gate o g) ∙ sym whole;
+  }
+
+  pub two_has : (n w x : ℕ) (mask online : Kind) → Stand plan.gates n (two n w mask online).gates →
+      IsNumberOf true numbers (two n w mask online).wire x → HasKeys plan.gates numbers (two n w mask online).wire w x
+  two_has n w x mask online stand is =
+      keys_there (two n w mask online).wire w x mask online
+      (first_of plan.gates n (gate_of mask w) (gate_of online w ∷ []) stand)
+      (stand 1 (gate_of online w) refl) is
+
+  pub sliced_has : (n w : ℕ) (a : Wire) (at low x : ℕ) → Stand plan.gates n (sliced true n w a at).gates →
+      HasKeys plan.gates numbers a low x → HasKeys plan.gates numbers (sliced true n w a at).wire w (x / 2 ^ at % 2 ^ w)
+  sliced_has n w a at low x stand p =
+      two_has n w _ (SliceMask a.mask at) (SliceOnline a.gate at) stand (sliced_made true n w a at low x stand p)
+
+  pub xored_has : (n w : ℕ) (a b : Wire) (low high x y : ℕ) → Stand plan.gates n (xored true n w a b).gates →
+      HasKeys plan.gates numbers a low x → HasKeys plan.gates numbers b high y →
+      HasKeys plan.gates numbers (xored true n w a b).wire w (bit_xor x y % 2 ^ w)
+  xored_has n w a b low high x y stand p q =
+      two_has n w _ (XorMask a.mask b.mask) (XorOnline a.gate b.gate) stand (xored_made true n w a b low high x y stand p q)
+
+  pub joined_has : (n w : ℕ) (a b : Wire) (low high x y : ℕ) → Stand plan.gates n (joined true n w a b).gates →
+      HasKeys plan.gates numbers a low x → HasKeys plan.gates numbers b high y →
+      HasKeys plan.gates numbers (joined true n w a b).wire w ((x + 2 ^ low * y) % 2 ^ w)
+  joined_has n w a b low high x y stand p q =
+      two_has n w _ (JoinMask a.mask b.mask) (JoinOnline a.gate b.gate) stand (joined_made true n w a b low high x y stand p q)
+
+  pub anded_has : (n w : ℕ) (a b : Wire) (low high x y : ℕ) → Stand plan.gates n (anded true n w a b).gates →
+      HasKeys plan.gates numbers a low x → HasKeys plan.gates numbers b high y →
+      HasKeys plan.gates numbers (anded true n w a b).wire w (bit_and x y % 2 ^ w)
+  anded_has n w a b low high x y stand p q =
+      let table : Gate = gate_of (Garble a.mask b.mask n) w in
+      let result : Gate = gate_of (EvalY (n + 1) a.gate b.gate) w in
+      keys_there (anded true n w a b).wire w _ KeyMask (EvalY (n + 1) a.gate b.gate)
+      (first_of plan.gates n (gate_of KeyMask w) (table ∷ result ∷ []) stand) (stand 2 result refl)
+      (anded_made true n w a b low high x y stand p q)
+
+  -- a number fits the width of its wire
+  pub has_small : (a : Wire) (w x : ℕ) → HasKeys plan.gates numbers a w x → x < 2 ^ w
+  has_small a w x p =
+      subst (λ k. k < 2 ^ w) p.is (xor_lt w (index a.mask) (index a.gate) p.mask_small p.online_small)
+
+  pub has_number : (a : Wire) (w x : ℕ) → HasKeys plan.gates numbers a w x → IsNumberOf true numbers a x
+  has_number a w x p = (index a.mask, index a.gate, p.mask_there, p.online_there, sym p.is)

@@ -1,8 +1,8 @@
 -- The gates of a part of a circuit, and the wires of the values that they give.
-use Rattle.std.specs.Prelude.{ℕ, zero, suc, ◌≡◌, ◌+◌, Bool, true, false, List, [], ◌∷◌, ◌++◌, slice_get, Some, bit_xor}
+use Rattle.std.specs.Prelude.{ℕ, zero, suc, ◌≡◌, ◌<◌, ◌+◌, ◌^◌, Bool, true, false, List, [], ◌∷◌, ◌++◌, slice_get, slice_index, Some, bit_xor}
 use Rattle.std.specs.Option.{unwrap_or}
 use Rattle.share_types.specs.declared.receiver.Receiver.{Receiver}
-use Rattle.plan_gates.specs.Gate.{Kind, Gate, gate_of, InB, ConstB, XorB, XorConstB, SliceB, JoinB, AndB, OutB, KeyMask, ConstMask, XorMask, FlipMask, SliceMask, JoinMask, InOnline, ZeroOnline, XorOnline, SliceOnline, JoinOnline, Garble, EvalY, YToB}
+use Rattle.plan_gates.specs.Gate.{Kind, Gate, gate_of, InB, ConstB, XorB, XorConstB, SliceB, JoinB, AndB, OutB, KeyMask, ConstMask, XorMask, FlipMask, SliceMask, JoinMask, InOnline, ZeroOnline, XorOnline, SliceOnline, JoinOnline, Garble, EvalY, YToB, width_at}
 use Rattle.plan_gates.specs.Plain.{Outside, gate_number}
 use Rattle.gate_plan.specs.declared.wire.Wire.{Wire}
 
@@ -115,3 +115,13 @@ IsNumberOf false numbers a value = slice_get numbers a.gate ≡ Some value
 IsNumberOf true numbers a value =
     (mask online : ℕ) × (slice_get numbers a.mask ≡ Some mask) × (slice_get numbers a.gate ≡ Some online)
     × (value ≡ bit_xor mask online)
+
+-- both gates of a wire that is shared as keys have a width, and the XOR of their numbers is a number
+pub record HasKeys (gates : List Gate) (numbers : List ℕ) (a : Wire) (width x : ℕ) : Type 0 where
+  pub mask_width : width_at gates a.mask ≡ width
+  pub online_width : width_at gates a.gate ≡ width
+  pub mask_there : slice_get numbers a.mask ≡ Some (slice_index numbers a.mask)
+  pub online_there : slice_get numbers a.gate ≡ Some (slice_index numbers a.gate)
+  pub mask_small : slice_index numbers a.mask < 2 ^ width
+  pub online_small : slice_index numbers a.gate < 2 ^ width
+  pub is : bit_xor (slice_index numbers a.mask) (slice_index numbers a.gate) ≡ x

@@ -1,6 +1,5 @@
 -- The gates of a circuit's statements.
 use Rattle.std.specs.Prelude.{ℕ, zero, suc, ◌+◌, ◌-◌, ◌*◌, ◌^◌, Bool, true, false, List, [], length, take, slice_get, Option, Some, None, option_map, if◌then◌else◌}
-use Rattle.std.specs.List.{list_all}
 use Rattle.std.specs.Option.{unwrap_or}
 use Rattle.share_types.specs.declared.sharing.WireType.{WireType}
 use Rattle.share_types.specs.declared.sharing.WireType.TheVariants as wire
@@ -8,12 +7,15 @@ use Rattle.mixed_language.specs.declared.language.Operation.{Operation}
 use Rattle.mixed_language.specs.declared.language.Operation.TheVariants.{InputWord, InputBits, ConstWord, ConstBits, Add, Sub, Mul, AddConst, MulConst, Xor, And, Not, Slice, Join, A2Y, A2B, B2Y, Y2B, B2A, Y2A, Output}
 use Rattle.mixed_language.specs.Circuit.{Circuit, Statement, Shape, wire_at}
 use Rattle.share_types.specs.Wires.{width_of}
+use Rattle.mixed_language.specs.Eval.{operand_width}
 use Rattle.mixed_language.specs.Table.{inputs_of, told_value, receiver_of}
 use Rattle.share_types.specs.declared.receiver.Receiver.{Receiver}
-use Rattle.plan_gates.specs.Gate.{InA, ConstA, AddA, SubA, AddConstA, MulConstA, MulA, OutA, OutB, YToB}
+use Rattle.plan_gates.specs.Gate.{InA, ConstA, AddA, SubA, AddConstA, MulConstA, MulA, OutA, OutB, YToB, BToA}
 use Rattle.plan_gates.specs.Plan.{Gates}
 use Rattle.gate_plan.specs.declared.wire.Wire.{Wire}
 use Rattle.gate_plan.specs.Blocks.{Block, Lowered, single, wire_among, one, entered, constant, xored, anded, flipped, sliced, joined, told, no_block, with_block}
+use Rattle.gate_plan.specs.declared.convert.Parts.TheVariants.{Word, Vector}
+use Rattle.gate_plan.specs.Convert.{from_parts, then_one}
 
 -- ---- how many gates the statements of a circuit have
 
@@ -64,28 +66,11 @@ gates_before parties all (suc n) = gates_before parties all n + gates_in parties
 abbrev pub all_gates : Circuit → ℕ
 all_gates c = gates_before c.parties c.statements (length c.statements)
 
--- ---- which statements are built
-
--- all but those that make keys of shares, or words or vectors by way of them
-abbrev pub is_operation_built : Operation → Bool
-is_operation_built A2Y = false
-is_operation_built A2B = false
-is_operation_built B2Y = false
-is_operation_built B2A = false
-is_operation_built Y2A = false
-is_operation_built _ = true
-
-abbrev pub is_built : Statement → Bool
-is_built s = is_operation_built s.shape.operation
-
-abbrev pub all_built : Circuit → Bool
-all_built c = list_all is_built c.statements
-
 -- ---- the gates of a statement
 
 -- what the gates of a statement are made of: the wires of its operands, the number of its input, the party
--- whose input it is, who is told, whether a word is told, the width of its value or of what it tells, and
--- the place and the constant that its line states
+-- whose input it is, who is told, whether a word is told, the width of its value or of what it tells, that
+-- of its first operand, and the place and the constant that its line states
 pub record Source : Type 0 where
   pub x : Wire
   pub y : Wire
@@ -94,30 +79,44 @@ pub record Source : Type 0 where
   pub to : Receiver
   pub is_word : Bool
   pub width : ℕ
+  pub low : ℕ
   pub place : ℕ
   pub constant : ℕ
 
--- the gates of an operation, of which the first has the number n, where its value or what it tells is
--- shared as keys or not, and the wire of that value. What is not built has none
-abbrev pub block_of : Operation → Bool → Source → ℕ → Block
-block_of InputWord keys v n = one n v.width (InA v.party v.k)
-block_of InputBits keys v n = entered keys n v.width v.party v.k 0
-block_of ConstWord keys v n = one n v.width (ConstA v.constant)
-block_of ConstBits keys v n = constant keys n v.width v.constant
-block_of Add keys v n = one n v.width (AddA v.x.gate v.y.gate)
-block_of Sub keys v n = one n v.width (SubA v.x.gate v.y.gate)
-block_of Mul keys v n = one n v.width (MulA v.x.gate v.y.gate)
-block_of AddConst keys v n = one n v.width (AddConstA v.x.gate v.constant)
-block_of MulConst keys v n = one n v.width (MulConstA v.x.gate v.constant)
-block_of Xor keys v n = xored keys n v.width v.x v.y
-block_of And keys v n = anded keys n v.width v.x v.y
-block_of Not keys v n = flipped keys n v.width v.x (2 ^ v.width - 1)
-block_of Slice keys v n = sliced keys n v.width v.x v.place
-block_of Join keys v n = joined keys n v.width v.x v.y
-block_of Y2B keys v n = one n v.width (YToB v.x.mask v.x.gate)
-block_of Output false v n = one n v.width (if v.is_word then OutA v.x.gate v.to else OutB v.x.gate v.to)
-block_of Output true v n = told true n v.width v.x v.to
-block_of _ keys v n = no_block
+-- the gates of the bits of the word of a gate: its wire, which becomes a vector
+abbrev pub word_bits : ℕ → ℕ → ℕ → ℕ → Block
+word_bits parties x width n =
+    then_one (from_parts (Word x) parties n) n width (λ sum. YToB sum.mask sum.gate)
+
+-- the gates of the number of a wire of so many bits as a word: a vector, which becomes one
+abbrev pub number_of_bits : Wire → ℕ → ℕ → ℕ → Block
+number_of_bits a low width n = then_one (one n low (YToB a.mask a.gate)) n width (λ bits. BToA bits.gate)
+
+-- the gates of an operation among so many parties, of which the first has the number n, where its value or
+-- what it tells is shared as keys or not, and the wire of that value
+abbrev pub block_of : ℕ → Operation → Bool → Source → ℕ → Block
+block_of parties InputWord keys v n = one n v.width (InA v.party v.k)
+block_of parties InputBits keys v n = entered keys n v.width v.party v.k 0
+block_of parties ConstWord keys v n = one n v.width (ConstA v.constant)
+block_of parties ConstBits keys v n = constant keys n v.width v.constant
+block_of parties Add keys v n = one n v.width (AddA v.x.gate v.y.gate)
+block_of parties Sub keys v n = one n v.width (SubA v.x.gate v.y.gate)
+block_of parties Mul keys v n = one n v.width (MulA v.x.gate v.y.gate)
+block_of parties AddConst keys v n = one n v.width (AddConstA v.x.gate v.constant)
+block_of parties MulConst keys v n = one n v.width (MulConstA v.x.gate v.constant)
+block_of parties Xor keys v n = xored keys n v.width v.x v.y
+block_of parties And keys v n = anded keys n v.width v.x v.y
+block_of parties Not keys v n = flipped keys n v.width v.x (2 ^ v.width - 1)
+block_of parties Slice keys v n = sliced keys n v.width v.x v.place
+block_of parties Join keys v n = joined keys n v.width v.x v.y
+block_of parties A2Y keys v n = from_parts (Word v.x.gate) parties n
+block_of parties A2B keys v n = word_bits parties v.x.gate v.width n
+block_of parties B2Y keys v n = from_parts (Vector v.x.gate v.width) parties n
+block_of parties Y2B keys v n = one n v.width (YToB v.x.mask v.x.gate)
+block_of parties B2A keys v n = one n v.width (BToA v.x.gate)
+block_of parties Y2A keys v n = number_of_bits v.x v.low v.width n
+block_of parties Output false v n = one n v.width (if v.is_word then OutA v.x.gate v.to else OutB v.x.gate v.to)
+block_of parties Output true v n = told true n v.width v.x v.to
 
 -- the width of a value that is shared so, if there is one
 abbrev pub width_handled : Option WireType → ℕ
@@ -132,10 +131,10 @@ abbrev pub operand_wire : List Wire → Option ℕ → Wire
 operand_wire wires None = single 0
 operand_wire wires (Some at) = wire_among wires at
 
--- what the gates of a shape are made of, from the wires of its operands, the number of its input, and how
--- its value is shared, or the value that it tells
-abbrev pub source_from : Shape → Wire → Wire → ℕ → Option WireType → Source
-source_from shape x y k handled = record {
+-- what the gates of a shape are made of, from the wires of its operands, the number of its input, how its
+-- value is shared, or the value that it tells, and the width of its first operand
+abbrev pub source_from : Shape → Wire → Wire → ℕ → Option WireType → ℕ → Source
+source_from shape x y k handled low = record {
   x = x;
   y = y;
   k = k;
@@ -143,6 +142,7 @@ source_from shape x y k handled = record {
   to = receiver_of shape.party;
   is_word = is_word handled;
   width = width_handled handled;
+  low = low;
   place = shape.place;
   constant = shape.constant;
 }
@@ -155,12 +155,13 @@ source_of c at wires s =
     (operand_wire wires (slice_get s.shape.operands 1))
     (length (inputs_of (take at c.statements)))
     (wire_handled c.statements s)
+    (operand_width c.statements (slice_get s.shape.operands 0))
 
 -- the gates of the statement at a place, behind those of the statements before it
 abbrev pub block_at : Circuit → ℕ → Lowered → Option Statement → Block
 block_at c at before None = no_block
 block_at c at before (Some s) =
-    block_of s.shape.operation (is_keys (wire_handled c.statements s)) (source_of c at before.wires s)
+    block_of c.parties s.shape.operation (is_keys (wire_handled c.statements s)) (source_of c at before.wires s)
     (length before.gates)
 
 -- the gates of the statements before a place, one statement after another, with a wire for each statement:
@@ -173,7 +174,7 @@ lowered_to c (suc n) = with_block (lowered_to c n) (block_at c n (lowered_to c n
 abbrev pub draft_to : Circuit → ℕ → Gates
 draft_to c n = record { parties = c.parties; gates = (lowered_to c n).gates }
 
--- the plan of a circuit whose statements are built, and the wires of its statements
+-- the plan of a circuit, and the wires of its statements
 abbrev pub lowered : Circuit → Gates
 lowered c = draft_to c (length c.statements)
 

@@ -13,7 +13,7 @@ use plan_gates::{Draft, GateKind};
 use share_types::Bits;
 
 /// Adds a mask and masked bits, and gives their wire.
-fn push_two(
+pub fn push_two(
     draft: &mut Draft,
     mask: GateKind,
     online: GateKind,

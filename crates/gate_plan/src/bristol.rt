@@ -29,7 +29,6 @@ pub fn lower_bristol(
     ensures count { IfOk result (λ plan.
         length plan.gates ≡ all_bristol_gates (are_keys sharing) circuit.now) }
     ensures keeps { IfOk result (λ plan. KeepsBristol circuit.now plan) }
-    ensures built { IsErrOf result PlanError.NotBuilt → ⊥ }
     ensures too_many { (gates : ℕ) → IsErrOf result (PlanError.TooManyGates gates) ↔
         ((most_gates < all_bristol_gates (are_keys sharing) circuit.now)
         × (gates ≡ all_bristol_gates (are_keys sharing) circuit.now)) }

@@ -6,10 +6,6 @@ use thiserror::Error;
 /// Why a circuit is not lowered.
 #[derive(Clone, Copy, Debug, PartialEq, Eq, Error)]
 pub enum PlanError {
-    /// Some statement makes keys of shares, or words or vectors by way of them: `a2y`, `a2b`, `b2y`, `b2a` or
-    /// `y2a`.
-    #[error("a part of the circuit cannot be run yet")]
-    NotBuilt,
     /// The circuit has more than 4,194,304 gates: so many.
     #[error("the circuit has {gates} gates")]
     TooManyGates { gates: u64 },

@@ -3,12 +3,13 @@ ghost use Rattle.mot_base.specs.Limits.{least_parties, most_parties, most_width,
 ghost use Rattle.mixed_language.specs.Circuit.{shape_of};
 ghost use Rattle.mixed_language.specs.Valid.{IsCircuit};
 ghost use Rattle.mixed_language.specs.Table.{inputs_of};
-ghost use Rattle.gate_plan.specs.Lowering.{gates_of, gates_in, all_gates, is_operation_built, is_built, all_built, lowered_to, draft_to, lowered};
-ghost use Rattle.gate_plan.specs.Keeps.{KeepsEvaluation};
+ghost use Rattle.gate_plan.specs.Lowering.{gates_of, gates_in, all_gates, lowered_to, draft_to, lowered};
+ghost use Rattle.gate_plan.specs.Keeps.{KeepsEvaluation, PartsExist};
 
 use crate::error::PlanError;
 use crate::statement::{
-    inputs_taken, is_keys, operand_wire, operands_of, push_block, wire_handled,
+    Setting, inputs_taken, is_keys, operand_width, operand_wire, operands_of, push_block,
+    wire_handled,
 };
 use crate::wire::Wire;
 use mixed_language::{Form, Mixed};
@@ -19,27 +20,26 @@ use std::alloc::Global;
 /// The gates of an adder of two words that are shared as keys.
 const ADDER_GATES: u64 = 1073;
 
-/// The gates of a circuit. `NotBuilt` comes exactly where some statement is `a2y`, `a2b`, `b2y`, `b2a` or
-/// `y2a`, and `TooManyGates` exactly where there is none of them, and the circuit has too many.
+/// The gates of a circuit. `TooManyGates` comes exactly where it has too many.
 pub fn lower_mixed(alloc: Global, circuit: &Mixed) -> Result<Plan, PlanError>
     ensures plan { IfOk result (λ plan. plan ≡ lowered circuit.now) }
     ensures count { IfOk result (λ plan. length plan.gates ≡ all_gates circuit.now) }
     ensures keeps { IfOk result (λ plan. KeepsEvaluation circuit.now plan) }
-    ensures not_built { IsErrOf result PlanError.NotBuilt ↔ (all_built circuit.now ≡ false) }
     ensures too_many { (gates : ℕ) → IsErrOf result (PlanError.TooManyGates gates) ↔
-        ((all_built circuit.now ≡ true) × (most_gates < all_gates circuit.now)
-        × (gates ≡ all_gates circuit.now)) }
+        ((most_gates < all_gates circuit.now) × (gates ≡ all_gates circuit.now)) }
 {
-    if !are_built(circuit) {
-        return Err(PlanError::NotBuilt);
-    }
     let gates = lowered_gates(circuit);
     if gates > u64::from(MAX_GATES) {
         return Err(PlanError::TooManyGates { gates });
     }
-    let plan = lower_built(alloc, circuit)?;
+    let plan = lower_few(alloc, circuit)?;
     Ok(plan)
 }
+
+/// Every plan has lawful parts of the values that its parties enter, on all inputs.
+pub fn parts_exist()
+    ensures { PartsExist }
+{}
 
 /// How many gates a circuit has, all statements included. It takes no memory.
 pub fn lowered_gates(circuit: &Mixed) -> u64
@@ -97,39 +97,8 @@ fn gates_of(parties: u8, form: Form, keys: bool) -> u64
     }
 }
 
-/// Whether all statements of a circuit are built.
-fn are_built(circuit: &Mixed) -> bool
-    ensures { result ≡ all_built circuit.now }
-{
-    for at in 0..circuit.len() {
-        if !is_built(circuit, at) {
-            return false;
-        }
-    }
-    true
-}
-
-/// Whether a statement is built.
-fn is_built(circuit: &Mixed, at: u32) -> bool
-    requires { at < length circuit.now.statements }
-    ensures { option_map is_built (slice_get circuit.now.statements at) ≡ Some result }
-{
-    is_form_built(circuit.form(at))
-}
-
-/// Whether a statement of that form is built.
-fn is_form_built(form: Form) -> bool
-    ensures { result ≡ is_operation_built (shape_of form).operation }
-{
-    !matches!(
-        form,
-        Form::A2Y { .. } | Form::A2B { .. } | Form::B2Y { .. } | Form::B2A { .. } | Form::Y2A { .. }
-    )
-}
-
-/// The gates of a circuit whose statements are built, and which are not too many.
-fn lower_built(alloc: Global, circuit: &Mixed) -> Result<Plan, NoMemory>
-    requires built { all_built circuit.now ≡ true }
+/// The gates of a circuit which are not too many.
+fn lower_few(alloc: Global, circuit: &Mixed) -> Result<Plan, NoMemory>
     requires few { all_gates circuit.now ≤ most_gates }
     ensures plan { IfOk result (λ plan. plan ≡ lowered circuit.now) }
     ensures count { IfOk result (λ plan. length plan.gates ≡ all_gates circuit.now) }
@@ -156,7 +125,6 @@ fn push_statement(
 ) -> Result<Wire, NoMemory>
     requires at { at < length circuit.now.statements }
     requires circuit { IsCircuit circuit.now }
-    requires built { all_built circuit.now ≡ true }
     requires few { all_gates circuit.now ≤ most_gates }
     requires before { draft.old ≡ draft_to circuit.now at }
     requires wires { wires.now ≡ (lowered_to circuit.now at).wires }
@@ -165,11 +133,16 @@ fn push_statement(
     ensures given { IfOk result (λ wire. wires.now ++ wire ∷ [] ≡ (lowered_to circuit.now (at + 1)).wires) }
 {
     let form = circuit.form(at);
-    let (x, y) = operands_of(form);
-    let x = operand_wire(wires, x);
-    let y = operand_wire(wires, y);
+    let (first, second) = operands_of(form);
+    let setting = Setting {
+        parties: circuit.parties(),
+        x: operand_wire(wires, first),
+        y: operand_wire(wires, second),
+        k: inputs,
+        low: operand_width(circuit, first),
+    };
     match wire_handled(circuit, at) {
-        Some(wire) => push_block(draft, form, inputs, wire, x, y),
+        Some(wire) => push_block(draft, form, wire, setting),
         None => unreachable!(),
     }
 }

@@ -1,21 +1,23 @@
 //! The gates of a statement.
 
 ghost use Rattle.std.specs.Prelude.{◌≡◌, ◌<◌, ◌≤◌, ◌+◌, ◌-◌, ◌^◌, true, None, length, slice_get, slice_index, Some, IfOk, IfSome, OnOk, if◌then◌else◌};
-ghost use Rattle.mot_base.specs.Limits.{most_width, most_gates};
+ghost use Rattle.mot_base.specs.Limits.{least_parties, most_parties, most_width, most_gates};
 ghost use Rattle.mixed_language.specs.declared.language.Operation.TheVariants.{ConstBits};
 ghost use Rattle.mixed_language.specs.Circuit.{shape_of};
 ghost use Rattle.share_types.specs.Wires.{width_of};
 ghost use Rattle.mixed_language.specs.Valid.{AreEarlier};
-ghost use Rattle.mixed_language.specs.Eval.{inputs_taken};
+ghost use Rattle.mixed_language.specs.Eval.{inputs_taken, operand_width};
 ghost use Rattle.mixed_language.specs.Wide.{IsWide};
 ghost use Rattle.plan_gates.specs.Gate.{OutA, OutB, YToB, kind_of, stated_width};
 ghost use Rattle.plan_gates.specs.Plan.{with_gates};
-ghost use Rattle.gate_plan.specs.Lowering.{handled_by, wire_handled, is_keys, is_word, is_operation_built, block_of, operand_wire, source_from};
+ghost use Rattle.gate_plan.specs.Statements.{block_in};
+ghost use Rattle.gate_plan.specs.Lowering.{word_bits, number_of_bits, width_handled, handled_by, wire_handled, is_keys, is_word, block_of, operand_wire, source_from};
 
 use crate::block::{
     push_anded, push_constant, push_entered, push_flipped, push_joined, push_sliced, push_told,
     push_xored,
 };
+use crate::convert::{Parts, push_parts};
 use crate::wire::{Wire, push_one, wire_among};
 use circuit_tables::Receiver;
 use mixed_language::{Form, Mixed};
@@ -111,32 +113,66 @@ pub fn is_keys(wire: Option<WireType>) -> bool
     matches!(wire, Some(WireType::Y(_)))
 }
 
-/// Adds the gates of a statement that is built, and gives the wire of its value: `k` is the number of its
-/// input, `wire` is how its value is shared, or the value that it tells, and `x` and `y` are the wires of
-/// its operands.
+/// The width of the value at the place of an operand, and 0 without one.
+pub fn operand_width(circuit: &Mixed, place: Option<u32>) -> u8
+    requires { IfSome place (λ at. at < length circuit.now.statements) }
+    ensures { result ≡ operand_width circuit.now.statements place }
+{
+    match place {
+        Some(at) => width_of(circuit.wire(at)),
+        None => 0,
+    }
+}
+
+/// The width of a value, and 0 without one.
+fn width_of(wire: Option<WireType>) -> u8
+    requires { IfSome wire (λ w. IsWide w) }
+    ensures { result ≡ width_handled wire }
+{
+    match wire {
+        Some(wire) => wire.width(),
+        None => 0,
+    }
+}
+
+/// What the gates of a statement are made of beside its form: how many parties there are, the wires of its
+/// operands, the number of its input, and the width of its first operand.
+#[derive(Clone, Copy, Debug)]
+pub struct Setting {
+    pub parties: u8,
+    pub x: Wire,
+    pub y: Wire,
+    pub k: u32,
+    pub low: u8,
+}
+
+/// Adds the gates of a statement, and gives the wire of its value: `wire` is how its value is shared, or the
+/// value that it tells.
 pub fn push_block(
     draft: &mut Draft,
     form: Form,
-    k: u32,
     wire: WireType,
-    x: Wire,
-    y: Wire,
+    setting: Setting,
 ) -> Result<Wire, NoMemory>
     requires wide { IsWide wire }
-    requires built { is_operation_built (shape_of form).operation ≡ true }
+    requires some { least_parties ≤ setting.parties }
+    requires most { setting.parties ≤ most_parties }
     requires constant { (shape_of form).operation ≡ ConstBits → (shape_of form).width ≡ width_of wire }
     requires room { length draft.old.gates
-        + length (block_of (shape_of form).operation (is_keys (Some wire))
-        (source_from (shape_of form) x y k (Some wire)) (length draft.old.gates)).gates ≤ most_gates }
+        + length (block_in setting form wire (length draft.old.gates)).gates ≤ most_gates }
     ensures next { OnOk result (draft.new ≡ with_gates draft.old
-        (block_of (shape_of form).operation (is_keys (Some wire))
-        (source_from (shape_of form) x y k (Some wire)) (length draft.old.gates)).gates) }
-    ensures given { IfOk result (λ given. given
-        ≡ (block_of (shape_of form).operation (is_keys (Some wire))
-        (source_from (shape_of form) x y k (Some wire)) (length draft.old.gates)).wire) }
+        (block_in setting form wire (length draft.old.gates)).gates) }
+    ensures given { IfOk result (λ given. given ≡ (block_in setting form wire (length draft.old.gates)).wire) }
 {
     let width = wire.width();
     let keys = is_keys(Some(wire));
+    let Setting {
+        parties,
+        x,
+        y,
+        k,
+        low,
+    } = setting;
     match form {
         Form::InputB { party, .. } | Form::InputY { party, .. } => {
             push_entered(draft, keys, width, party, k, 0)
@@ -147,7 +183,12 @@ pub fn push_block(
         Form::NotB { .. } | Form::NotY { .. } => push_flipped(draft, keys, x, Bits::ones(width)),
         Form::SliceB { at, .. } | Form::SliceY { at, .. } => push_sliced(draft, keys, width, x, at),
         Form::JoinB { .. } | Form::JoinY { .. } => push_joined(draft, keys, width, x, y),
+        Form::A2Y { .. } => push_parts(draft, parties, Parts::Word { x: x.gate }),
+        Form::A2B { .. } => push_word_bits(draft, parties, x.gate, width),
+        Form::B2Y { .. } => push_parts(draft, parties, Parts::Vector { x: x.gate, width }),
         Form::Y2B { .. } => push_one(draft, to_vector(x), width),
+        Form::B2A { .. } => push_one(draft, GateKind::BToA { x: x.gate }, width),
+        Form::Y2A { .. } => push_number(draft, x, low, width),
         Form::Output { to, .. } if keys => push_told(draft, keys, width, x, to),
         Form::Output { to, .. } => push_one(draft, output(x.gate, to, wire), width),
         Form::InputA { party } => push_one(draft, GateKind::InA { party, k }, width),
@@ -178,8 +219,32 @@ pub fn push_block(
         ),
         Form::AddConstA { c, .. } => push_one(draft, GateKind::AddConstA { x: x.gate, c }, width),
         Form::MulConstA { c, .. } => push_one(draft, GateKind::MulConstA { x: x.gate, c }, width),
-        _ => unreachable!(),
     }
+}
+
+/// Adds the gates of the bits of the word of a gate.
+fn push_word_bits(draft: &mut Draft, parties: u8, x: u32, width: u8) -> Result<Wire, NoMemory>
+    requires some { least_parties ≤ parties }
+    requires most { parties ≤ most_parties }
+    requires room { length draft.old.gates
+        + length (word_bits parties x width (length draft.old.gates)).gates ≤ most_gates }
+    ensures next { OnOk result (draft.new ≡ with_gates draft.old
+        (word_bits parties x width (length draft.old.gates)).gates) }
+    ensures given { IfOk result (λ given. given ≡ (word_bits parties x width (length draft.old.gates)).wire) }
+{
+    let sum = push_parts(draft, parties, Parts::Word { x })?;
+    push_one(draft, to_vector(sum), width)
+}
+
+/// Adds the gates of the number of a wire of so many bits as a word.
+fn push_number(draft: &mut Draft, x: Wire, low: u8, width: u8) -> Result<Wire, NoMemory>
+    requires room { length draft.old.gates + 2 ≤ most_gates }
+    ensures next { OnOk result (draft.new ≡ with_gates draft.old
+        (number_of_bits x low width (length draft.old.gates)).gates) }
+    ensures given { IfOk result (λ given. given ≡ (number_of_bits x low width (length draft.old.gates)).wire) }
+{
+    let bits = push_one(draft, to_vector(x), low)?;
+    push_one(draft, GateKind::BToA { x: bits.gate }, width)
 }
 
 /// The gate that makes a vector of a wire that is shared as keys.

@@ -11,7 +11,7 @@ use Rattle.std.proofs.lemmas.Bool.{cases_lt, lt-ltb, eqb-true, eqb-false, eq-eqb
 use Rattle.share_types.specs.Sums.{total, xor_total, sum_to, xor_to, each}
 use Rattle.share_types.proofs.Parties.{total-append, xor_total-append}
 use Rattle.plan_gates.specs.declared.message.Message.{Message}
-use Rattle.plan_gates.specs.Gate.{Kind, Gate, InA, ConstA, AddA, SubA, AddConstA, MulConstA, MulA, OutA, InB, ConstB, XorB, XorConstB, SliceB, JoinB, AndB, OutB, party_of, InOnline, Garble, is_of_keys}
+use Rattle.plan_gates.specs.Gate.{Kind, Gate, InA, ConstA, AddA, SubA, AddConstA, MulConstA, MulA, OutA, InB, ConstB, XorB, XorConstB, SliceB, JoinB, AndB, OutB, party_of, InOnline, Garble, is_of_keys, ShareAOnline, ShareBOnline, BToA}
 use Rattle.plan_gates.specs.declared.draft.Sizes.{Sizes}
 use Rattle.plan_gates.specs.Plan.{Gates, IsPlan, sizes_of}
 use Rattle.plan_gates.specs.Messages.{words, vectors, messages_of, messages_at, message, are_two, hears, rounds, heard_rounds}
@@ -137,7 +137,10 @@ sends (InB party k at) from to = from == party
 sends (AndB x y) from to = true
 sends (OutB x receiver) from to = includes receiver to
 sends (InOnline party k at m) from to = to == party
+sends (ShareAOnline party x m) from to = to == party
+sends (ShareBOnline party x m) from to = to == party
 sends (Garble u v m) from to = true
+sends (BToA x) from to = true
 sends _ from to = false
 
 if_sent : (b c : Bool) (m : Message) → is_some (if b then first_of ((if c then Some m else None) ∷ []) else None) ≡ (b && c)
@@ -169,7 +172,10 @@ kind_sends (InB party k at) sizes from to b = if_sent b (from == party) (vectors
 kind_sends (AndB x y) sizes from to b = always_sent b (vectors 2 sizes.width)
 kind_sends (OutB x receiver) sizes from to b = if_sent b (includes receiver to) (vectors 1 sizes.width)
 kind_sends (InOnline party k at m) sizes from to b = if_sent_first b (to == party) (vectors 1 sizes.width)
+kind_sends (ShareAOnline party x m) sizes from to b = if_sent_first b (to == party) (vectors 1 sizes.width)
+kind_sends (ShareBOnline party x m) sizes from to b = if_sent_first b (to == party) (vectors 1 sizes.width)
 kind_sends (Garble u v m) sizes from to b = always_sent b (vectors 2 sizes.width)
+kind_sends (BToA x) sizes from to b = always_sent b (vectors 1 sizes.low)
 kind_sends _ sizes from to b = never_sent b
 
 pub sends_is : (plan : Gates) (from to g : ℕ) (gate : Gate) → slice_get plan.gates g ≡ Some gate →

@@ -4,7 +4,7 @@ use Rattle.std.specs.Prelude.{option_map, slice_get, slice_index_or}
 use Rattle.std.specs.List.{AllByRecursion}
 use Rattle.std.specs.Option.{unwrap_or}
 use Rattle.share_types.specs.declared.bits.Bits.{Bits}
-use Rattle.plan_gates.specs.Gate.{Kind, Gate, Given, Use, Word, Vector, width_at, gives, uses, operands, MulA, SliceB, JoinB, AndB, SliceMask, JoinMask, SliceOnline, JoinOnline}
+use Rattle.plan_gates.specs.Gate.{Kind, Gate, Given, Use, Word, Vector, width_at, gives, uses, operands, MulA, SliceB, JoinB, AndB, SliceMask, JoinMask, SliceOnline, JoinOnline, BToA}
 use Rattle.plan_gates.specs.declared.draft.Sizes.{Sizes}
 use Rattle.plan_gates.specs.Plan.{Gates, IsPlan, IsOperand, FitWidths, sizes_of}
 use Rattle.plan_gates.specs.Needs.{offset, needs_at, needs_there, needs_of}
@@ -119,6 +119,7 @@ fit_same (SliceMask u at) w ws e fit = cc
 fit_same (JoinMask u v) w ws e fit = cc
 fit_same (SliceOnline u at) w ws e fit = cc
 fit_same (JoinOnline u v) w ws e fit = cc
+fit_same (BToA x) w ws e fit = cc
 fit_same _ w ws e fit = fit
 
 -- an operand of a gate that keeps its width is as wide

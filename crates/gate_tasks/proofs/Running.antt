@@ -234,7 +234,7 @@ module _ (env : StageEnv) (values : List Value) (got : Rounds) (wires : List Val
         outs_are round (λ to. formed_of (kind_in env) (stand env) wires round) (λ to e.
         let sent = sent_there gate round to here e in
         ap (λ o. formed_of o (stand env) wires round) kind
-        ∙ (formed_is plan me env.gate own values got wires [] gate.kind (sizes_of plan gate) (party.before round got) round to (agree [] gate here wires_are) others sent.entry
+        ∙ (formed_is plan me env.gate own values got wires [] gate.kind (sizes_of plan gate) (party.before round got) round to (agree [] gate here wires_are) others sent.entry (unkeyed_at plan env.gate gate unkeyed here)
         ∙ sym sent.payload))
 
     -- what all of a stage send, and what is kept of it
@@ -291,7 +291,7 @@ module _ (env : StageEnv) (values : List Value) (got : Rounds) (wires : List Val
               ∙ (ap (λ o. Some (value_of_stage o (stand env) wires heard)) kind
               ∙ (ap (λ (v : Value). Some v)
               (value_is plan me env.gate own values got wires heard valid gate here inside gate.kind refl (agree heard gate here is.wires_are)
-              (λ t. heard_there stage ends is.heard_is (ap (λ o. hears_at o me) kind ∙ t))
+              (λ t. heard_there stage ends is.heard_is (ap (λ o. hears_at o me) kind ∙ t)) (unkeyed_at plan env.gate gate unkeyed here)
               ∙ sym (ap (λ o. value_at o h got) here))
               ∙ sym (ap (λ b. if b then Some (value_at (gate_of h) h got) else None) last)));
         }

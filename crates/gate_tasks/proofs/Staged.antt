@@ -6,7 +6,7 @@ use Rattle.share_types.specs.Sums.{total, xor_total, sum_to, xor_to, each, word_
 use Rattle.share_types.proofs.Parties.{sum_to_same, xor_to_same}
 use Rattle.arithmetic_gmw.specs.Shares as arithmetic
 use Rattle.boolean_gmw.specs.Shares as boolean
-use Rattle.plan_gates.specs.Gate.{Kind, Gate, InA, ConstA, AddA, SubA, AddConstA, MulConstA, MulA, OutA, InB, ConstB, XorB, XorConstB, SliceB, JoinB, AndB, OutB, operands, party_of, width_at, InOnline, Garble}
+use Rattle.plan_gates.specs.Gate.{Kind, Gate, InA, ConstA, AddA, SubA, AddConstA, MulConstA, MulA, OutA, InB, ConstB, XorB, XorConstB, SliceB, JoinB, AndB, OutB, operands, party_of, width_at, InOnline, Garble, is_of_keys, ShareAOnline, ShareBOnline, BToA}
 use Rattle.plan_gates.specs.declared.message.Message.{Message}
 use Rattle.plan_gates.specs.declared.draft.Sizes.{Sizes}
 use Rattle.plan_gates.specs.Plan.{Gates, IsPlan}
@@ -53,12 +53,6 @@ xor_of_others n me part w inside =
 
 abbrev no_messages : List (Option Message)
 no_messages = []
-
-abbrev no_payloads : List Payload
-no_payloads = []
-
-abbrev nobody_sends : List Heard
-nobody_sends = []
 
 none_behind : (r : ℕ) → is_some (entry_at no_messages r) ≡ true → ⊥
 none_behind zero e = cc
@@ -110,8 +104,8 @@ module _ (plan : Gates) (me g : ℕ) (own : Own) (before : List Value) (got : Ro
         let alone = senders_one plan me g gate valid here inside kind party of by_owner names (eqb-false party me apart) in
         ap (λ (ps : List Payload). get_or ps 0 []) (are ∙ ap (map (got 0)) alone)
 
-    pub value_is : (kind : Kind) → gate.kind ≡ kind → Agree kind → Hears kind → value_from kind h0 wires heard ≡ gate_value kind h got
-    value_is (InA party k) of agree hears = by (party == me) refl
+    pub value_is : (kind : Kind) → gate.kind ≡ kind → Agree kind → Hears kind → is_of_keys kind ≡ false → value_from kind h0 wires heard ≡ gate_value kind h got
+    value_is (InA party k) of agree hears u = by (party == me) refl
       where
         by : (b : Bool) → (party == me) ≡ b → value_from (InA party k) h0 wires heard ≡ gate_value (InA party k) h got
         by true e =
@@ -121,17 +115,17 @@ module _ (plan : Gates) (me g : ℕ) (own : Own) (before : List Value) (got : Ro
             ap (λ b. WordShare (cond b (kept_word h0 k) (word_in (get_or heard 0 []) 0))) e
             ∙ (ap (λ (p : Payload). WordShare (word_in p 0)) (owner_heard (InA party k) party of (λ q. refl) refl e (hears (ap not e)))
             ∙ sym (ap (λ b. WordShare (cond b (kept_word h k) (word_in (got 0 party) 0))) e))
-    value_is (ConstA c) of agree hears = refl
-    value_is (AddA x y) of agree hears = ap₂ (λ a b. WordShare (word_sum a b)) (agree 0 x refl).0 (agree 1 y refl).0
-    value_is (SubA x y) of agree hears = ap₂ (λ a b. WordShare (word_difference a b)) (agree 0 x refl).0 (agree 1 y refl).0
-    value_is (AddConstA x c) of agree hears = ap (λ a. WordShare (word_sum a (part_of_public me c))) (agree 0 x refl).0
-    value_is (MulConstA x c) of agree hears = ap (λ a. WordShare (word_product a c)) (agree 0 x refl).0
-    value_is (MulA x y) of agree hears =
+    value_is (ConstA c) of agree hears u = refl
+    value_is (AddA x y) of agree hears u = ap₂ (λ a b. WordShare (word_sum a b)) (agree 0 x refl).0 (agree 1 y refl).0
+    value_is (SubA x y) of agree hears u = ap₂ (λ a b. WordShare (word_difference a b)) (agree 0 x refl).0 (agree 1 y refl).0
+    value_is (AddConstA x c) of agree hears u = ap (λ a. WordShare (word_sum a (part_of_public me c))) (agree 0 x refl).0
+    value_is (MulConstA x c) of agree hears u = ap (λ a. WordShare (word_product a c)) (agree 0 x refl).0
+    value_is (MulA x y) of agree hears u =
         let are = all_heard (MulA x y) of (λ q. refl) (hears refl) in
         ap₂ (λ d e. WordShare (arithmetic.closed_share me (triple h) d e))
         (ap (λ a. opened_words (arithmetic.opened_left a (triple h)) 0 heard) (agree 0 x refl).0 ∙ words_opened (left_word h x) 0 inside are)
         (ap (λ a. opened_words (arithmetic.opened_right a (triple h)) 1 heard) (agree 1 y refl).0 ∙ words_opened (right_word h y) 1 inside are)
-    value_is (OutA x to) of agree hears = by (includes to me) refl
+    value_is (OutA x to) of agree hears u = by (includes to me) refl
       where
         by : (b : Bool) → includes to me ≡ b → value_from (OutA x to) h0 wires heard ≡ gate_value (OutA x to) h got
         by true e =
@@ -145,7 +139,7 @@ module _ (plan : Gates) (me g : ℕ) (own : Own) (before : List Value) (got : Ro
         by false e =
             ap (λ b. Told (cond b (Some (opened_words (word_at wires 0) 0 heard)) None)) e
             ∙ sym (ap (λ b. Told (cond b (Some (opened_word h (word h x) (got 0) 0)) None)) e)
-    value_is (InB party k at) of agree hears = by (party == me) refl
+    value_is (InB party k at) of agree hears u = by (party == me) refl
       where
         by : (b : Bool) → (party == me) ≡ b → value_from (InB party k at) h0 wires heard ≡ gate_value (InB party k at) h got
         by true e =
@@ -155,17 +149,17 @@ module _ (plan : Gates) (me g : ℕ) (own : Own) (before : List Value) (got : Ro
             ap (λ b. VectorShare (cond b (kept_vector h0 k at) (vector_in (width h) (get_or heard 0 []) 0))) e
             ∙ (ap (λ (p : Payload). VectorShare (vector_in (width h) p 0)) (owner_heard (InB party k at) party of (λ q. refl) refl e (hears (ap not e)))
             ∙ sym (ap (λ b. VectorShare (cond b (kept_vector h k at) (vector_in (width h) (got 0 party) 0))) e))
-    value_is (ConstB c) of agree hears = refl
-    value_is (XorB x y) of agree hears = ap₂ (λ a b. VectorShare (bit_xor a b)) (agree 0 x refl).1 (agree 1 y refl).1
-    value_is (XorConstB x c) of agree hears = ap (λ a. VectorShare (bit_xor a (part_of_public me c))) (agree 0 x refl).1
-    value_is (SliceB x at) of agree hears = ap (λ a. VectorShare (a / 2 ^ at % 2 ^ width h)) (agree 0 x refl).1
-    value_is (JoinB x y) of agree hears = ap₂ (λ a b. VectorShare (a + 2 ^ width_at plan.gates x * b)) (agree 0 x refl).1 (agree 1 y refl).1
-    value_is (AndB x y) of agree hears =
+    value_is (ConstB c) of agree hears u = refl
+    value_is (XorB x y) of agree hears u = ap₂ (λ a b. VectorShare (bit_xor a b)) (agree 0 x refl).1 (agree 1 y refl).1
+    value_is (XorConstB x c) of agree hears u = ap (λ a. VectorShare (bit_xor a (part_of_public me c))) (agree 0 x refl).1
+    value_is (SliceB x at) of agree hears u = ap (λ a. VectorShare (a / 2 ^ at % 2 ^ width h)) (agree 0 x refl).1
+    value_is (JoinB x y) of agree hears u = ap₂ (λ a b. VectorShare (a + 2 ^ width_at plan.gates x * b)) (agree 0 x refl).1 (agree 1 y refl).1
+    value_is (AndB x y) of agree hears u =
         let are = all_heard (AndB x y) of (λ q. refl) (hears refl) in
         ap₂ (λ d e. VectorShare (boolean.closed_share me (bit_triple h) d e))
         (ap (λ a. opened_vectors (width h) (boolean.opened_left a (bit_triple h)) 0 heard) (agree 0 x refl).1 ∙ vectors_opened (left_vector h x) 0 inside are)
         (ap (λ a. opened_vectors (width h) (boolean.opened_right a (bit_triple h)) 1 heard) (agree 1 y refl).1 ∙ vectors_opened (right_vector h y) 1 inside are)
-    value_is (OutB x to) of agree hears = by (includes to me) refl
+    value_is (OutB x to) of agree hears u = by (includes to me) refl
       where
         by : (b : Bool) → includes to me ≡ b → value_from (OutB x to) h0 wires heard ≡ gate_value (OutB x to) h got
         by true e =
@@ -179,39 +173,38 @@ module _ (plan : Gates) (me g : ℕ) (own : Own) (before : List Value) (got : Ro
         by false e =
             ap (λ b. Told (cond b (Some (opened_vectors (width h) (vector_at wires 0) 0 heard)) None)) e
             ∙ sym (ap (λ b. Told (cond b (Some (opened_vector h (vector h x) (got 0) 0)) None)) e)
-    value_is _ of agree hears = refl
-
-  nothing_at : (r to : ℕ) → get_or no_payloads r [] ≡ get_or nobody_sends r silence to
-  nothing_at zero to = refl
-  nothing_at (suc r) to = refl
+    value_is _ of agree hears u = cc
 
   -- what is sent to those to whom something is sent, whatever the round
   pub formed_is : (kind : Kind) (sizes : Sizes) (rounds : Rounds) (round to : ℕ) → Agree kind → is_owned (Some kind) me ≡ false →
-      is_some (entry_at (messages_of kind sizes me to) round) ≡ true →
+      is_some (entry_at (messages_of kind sizes me to) round) ≡ true → is_of_keys kind ≡ false →
       get_or (formed kind h0 wires) round [] ≡ get_or (gate_sends kind h rounds) round silence to
-  formed_is (InA party k) sizes rounds zero to agree other e =
+  formed_is (InA party k) sizes rounds zero to agree other e u =
       let owned = turned party me ∙ is_if (me == party) (words 1) e in let contrary = sym other ∙ owned in cc
-  formed_is (InA party k) sizes rounds (suc r) to agree other e = absurd (none_behind r e)
-  formed_is (MulA x y) sizes rounds zero to agree other e =
+  formed_is (InA party k) sizes rounds (suc r) to agree other e u = absurd (none_behind r e)
+  formed_is (MulA x y) sizes rounds zero to agree other e u =
       ap₂ (λ a b. word_bytes (arithmetic.opened_left a (triple h) ∷ arithmetic.opened_right b (triple h) ∷ [])) (agree 0 x refl).0 (agree 1 y refl).0
-  formed_is (MulA x y) sizes rounds (suc r) to agree other e = absurd (none_behind r e)
-  formed_is (OutA x receiver) sizes rounds zero to agree other e =
+  formed_is (MulA x y) sizes rounds (suc r) to agree other e u = absurd (none_behind r e)
+  formed_is (OutA x receiver) sizes rounds zero to agree other e u =
       ap (λ a. word_bytes (a ∷ [])) (agree 0 x refl).0
       ∙ sym (ap (λ b. cond b (word_bytes (word h x ∷ [])) []) (is_if (includes receiver to) (words 1) e))
-  formed_is (OutA x receiver) sizes rounds (suc r) to agree other e = absurd (none_behind r e)
-  formed_is (InB party k at) sizes rounds zero to agree other e =
+  formed_is (OutA x receiver) sizes rounds (suc r) to agree other e u = absurd (none_behind r e)
+  formed_is (InB party k at) sizes rounds zero to agree other e u =
       let owned = turned party me ∙ is_if (me == party) (vectors 1 sizes.width) e in let contrary = sym other ∙ owned in cc
-  formed_is (InB party k at) sizes rounds (suc r) to agree other e = absurd (none_behind r e)
-  formed_is (AndB x y) sizes rounds zero to agree other e =
+  formed_is (InB party k at) sizes rounds (suc r) to agree other e u = absurd (none_behind r e)
+  formed_is (AndB x y) sizes rounds zero to agree other e u =
       ap₂ (λ a b. vectors_bytes (width h) (boolean.opened_left a (bit_triple h) ∷ boolean.opened_right b (bit_triple h) ∷ [])) (agree 0 x refl).1 (agree 1 y refl).1
-  formed_is (AndB x y) sizes rounds (suc r) to agree other e = absurd (none_behind r e)
-  formed_is (OutB x receiver) sizes rounds zero to agree other e =
+  formed_is (AndB x y) sizes rounds (suc r) to agree other e u = absurd (none_behind r e)
+  formed_is (OutB x receiver) sizes rounds zero to agree other e u =
       ap (λ a. vectors_bytes (width h) (a ∷ [])) (agree 0 x refl).1
       ∙ sym (ap (λ b. cond b (vectors_bytes (width h) (vector h x ∷ [])) []) (is_if (includes receiver to) (vectors 1 sizes.width) e))
-  formed_is (OutB x receiver) sizes rounds (suc r) to agree other e = absurd (none_behind r e)
-  formed_is (InOnline party k at m) sizes rounds r to agree other e = nothing_at r to
-  formed_is (Garble u v m) sizes rounds r to agree other e = nothing_at r to
-  formed_is _ sizes rounds r to agree other e = absurd (none_behind r e)
+  formed_is (OutB x receiver) sizes rounds (suc r) to agree other e u = absurd (none_behind r e)
+  formed_is (InOnline party k at m) sizes rounds r to agree other e u = cc
+  formed_is (ShareAOnline party x m) sizes rounds r to agree other e u = cc
+  formed_is (ShareBOnline party x m) sizes rounds r to agree other e u = cc
+  formed_is (Garble x y m) sizes rounds r to agree other e u = cc
+  formed_is (BToA x) sizes rounds r to agree other e u = cc
+  formed_is _ sizes rounds r to agree other e u = absurd (none_behind r e)
 
   pub given_is : (kind : Kind) (rounds : Rounds) (to : ℕ) → is_owned (Some kind) me ≡ true →
       given_out kind h0 to ≡ get_or (gate_sends kind h rounds) 0 silence to

@@ -4,7 +4,7 @@ use Rattle.std.specs.Prelude.{ℕ, ◌≡◌, IfSome, Bool, true, false, not, �
 use Rattle.share_types.specs.Sums.{word_sum, word_difference, word_product, part_of_public, total, xor_total}
 use Rattle.arithmetic_gmw.specs.Shares as arithmetic
 use Rattle.boolean_gmw.specs.Shares as boolean
-use Rattle.plan_gates.specs.Gate.{Kind, Given, InA, ConstA, AddA, SubA, AddConstA, MulConstA, MulA, OutA, InB, ConstB, XorB, XorConstB, SliceB, JoinB, AndB, OutB, SliceMask, JoinMask, SliceOnline, JoinOnline, Word, Vector, uses, gives, is_of_keys, width_at}
+use Rattle.plan_gates.specs.Gate.{Kind, Given, InA, ConstA, AddA, SubA, AddConstA, MulConstA, MulA, OutA, InB, ConstB, XorB, XorConstB, SliceB, JoinB, AndB, OutB, SliceMask, JoinMask, SliceOnline, JoinOnline, Word, Vector, uses, gives, is_of_keys, width_at, BToA}
 use Rattle.plan_gates.specs.Gate as plan
 use Rattle.share_types.specs.Wires.{includes}
 use Rattle.joint_run.specs.Payload.{word_bytes, word_in, vectors_bytes, vector_in}
@@ -168,6 +168,7 @@ keeps_width (Some (SliceMask u at)) = false
 keeps_width (Some (JoinMask u v)) = false
 keeps_width (Some (SliceOnline u at)) = false
 keeps_width (Some (JoinOnline u v)) = false
+keeps_width (Some (BToA x)) = false
 keeps_width _ = true
 
 abbrev pub is_product : Option Kind → Bool

@@ -7,7 +7,7 @@ use Rattle.share_types.specs.Needs.{count_of, sum_of_needs}
 use Rattle.share_types.specs.Sums.{each}
 use Rattle.message_demux.specs.Slots.{has_high_bits}
 use Rattle.dealer_files.specs.Part.{Part, counts_of}
-use Rattle.plan_gates.specs.Gate.{Kind, Gate, Word, Vector, InB, gives, operands}
+use Rattle.plan_gates.specs.Gate.{Kind, Gate, Word, Vector, InB, InOnline, gives, operands}
 use Rattle.plan_gates.specs.Gate as plan
 use Rattle.plan_gates.specs.Plan.{Gates, has_keys}
 use Rattle.plan_gates.specs.Needs.{offset, needs_at}
@@ -153,6 +153,7 @@ pub record IsStage (h : Hand) (got : Rounds) (stage : ℕ) (wires : List ValueIn
 -- the bit from which on a gate takes its input
 abbrev pub taken_from : Kind → ℕ
 taken_from (InB party k at) = at
+taken_from (InOnline party k at m) = at
 taken_from _ = 0
 
 -- the own input that a gate takes has the gate's bits

@@ -111,6 +111,12 @@ fn has_input(plan: &Plan, gate: u32, party: Party, own: &Own) -> bool
             at,
             width,
         } => owner != party || own.inputs.has_bits(k, at, width),
+        GateKind::InOnline {
+            party: owner,
+            k,
+            at,
+            ..
+        } => owner != party || own.inputs.has_bits(k, at, plan.width(gate)),
         _ => true,
     }
 }
@@ -222,7 +228,8 @@ fn gives_word(kind: GateKind) -> bool
         | GateKind::SubA { .. }
         | GateKind::AddConstA { .. }
         | GateKind::MulConstA { .. }
-        | GateKind::MulA { .. } => true,
+        | GateKind::MulA { .. }
+        | GateKind::BToA { .. } => true,
         _ => false,
     }
 }

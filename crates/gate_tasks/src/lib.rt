@@ -20,9 +20,9 @@ mod wires;
 pub use deciding::serves_party;
 pub use gather::{held_values, kept_payloads};
 pub use joint_run::{
-    Own, a_party_follows, every_gate_recombines, one_joint_run, payloads_have_their_lengths,
-    payloads_have_their_shapes, payloads_read_back, tape_uses_never_meet, vector_in,
-    vector_payload, word_in, word_payload,
+    Own, a_party_follows, every_gate_recombines, every_wire_recombines, one_joint_run,
+    payloads_have_their_lengths, payloads_have_their_shapes, payloads_read_back,
+    tape_uses_never_meet, vector_in, vector_payload, word_in, word_payload,
 };
 pub use outgoing::{Carried, Out, Outs};
 pub use own::{Env, StageEnv};

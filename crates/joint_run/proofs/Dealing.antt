@@ -1,12 +1,19 @@
--- With honest parts the triples of all parties at a gate multiply.
+-- With honest parts the triples of all parties at a gate multiply, their key records match, and their offsets are odd.
 use Rattle.std.proofs.Common.{ℕ, ◌≡◌, ◌<◌, ◌≤◌, ◌+◌, ◌*◌, ◌%◌, ◌^◌, List, length, map, sym, ◌∙◌, ap, ap₂, subst, arith, take, drop}
-use Rattle.std.specs.Prelude.{slice_index, get_or, bit_and}
+use Rattle.std.proofs.Math.Path.{fun_ext}
+use Rattle.std.specs.Prelude.{slice_index, get_or, bit_and, ◌==◌}
 use Rattle.std.specs.Int.{bit_at}
 use Rattle.share_types.specs.declared.needs.Needs.{Needs}
-use Rattle.share_types.specs.declared.needs.Kind.TheVariants.{Mult, Bit}
+use Rattle.share_types.specs.declared.needs.Kind.TheVariants.{Mult, Bit, Key}
 use Rattle.share_types.specs.declared.records.MultTriple.{MultTriple}
 use Rattle.share_types.specs.Sums.{sum_to, total, xor_to, xor_total}
 use Rattle.share_types.proofs.Parties.{sum_to_same, xor_to_same}
+use Rattle.share_types.specs.declared.records.KeyBit.{KeyBit}
+use Rattle.share_types.specs.Keys.{bit, times, key_at, parity_to, AreKeyBit}
+use Rattle.bmr_keys.specs.Wires.{AreKeyBits, AreOdd}
+use Rattle.bmr_keys.proofs.Labels.{bit-low}
+use Rattle.bmr_keys.proofs.Sums.{parity-same}
+use Rattle.bmr_garble.specs.Product.{key_bit_at, no_key_bit}
 use Rattle.dealer_files.specs.Part.{Part}
 use Rattle.dealer_files.specs.Records.{vector_of}
 use Rattle.plan_gates.specs.Gate.{width_at}
@@ -19,6 +26,7 @@ use Rattle.joint_run.specs.Honest.{own_at, nobody, AreHonest, no_part}
 use Rattle.joint_run.proofs.Standing.{hands}
 use Rattle.joint_run.proofs.Grown.{map_map, total_is}
 use Rattle.joint_run.proofs.Sharing.{xor_total_is, length_mapped, get_or_mapped}
+use Rattle.joint_run.proofs.Keys.{times_cut, xor_cut, key_cut}
 use Rattle.joint_run.proofs.Triples.{vectors_at, triples_vector}
 
 module _ (plan : Gates) (owns : List Own) (bases : Needs) (session : ℕ) (honest : AreHonest plan owns bases session)
@@ -112,3 +120,54 @@ module _ (plan : Gates) (owns : List Own) (bases : Needs) (session : ℕ) (hones
     where
       all : (bit : ℕ) → xor_to n (vectors_at n stock_of bit bit_place wide) ≡ xor_to n (λ p. party.bits_of (at p) bit)
       all bit = xor_to_same n (vectors_at n stock_of bit bit_place wide) (λ p. party.bits_of (at p) bit) (λ p h. bits_are bit p h)
+
+  -- ---- key records and offsets
+
+  abbrev key_place : ℕ → ℕ
+  key_place k = bases.key + (offset plan g).key + k
+
+  abbrev dealt_key : ℕ → ℕ → KeyBit
+  dealt_key k p = key_bit_at (own p).part.keys (key_place k)
+
+  -- the parties' parts, in their order
+  abbrev part_in : ℕ → Part
+  part_in p = get_or (map (λ o. o.part) owns) p no_part
+
+  abbrev part_of : ℕ → Part
+  part_of p = (own p).part
+
+  parts_are : part_in ≡ part_of
+  parts_are = fun_ext (λ p. get_or_mapped (λ (o : Own). o.part) owns p nobody)
+
+  keys_in_stock : (needs_at plan g).key ≡ wide → (k : ℕ) → k < wide → key_place k < honest.counts.key
+  keys_in_stock needed k less =
+      let meets = records_never_meet plan g (length plan.gates) Key inside in
+      let enough = honest.enough_keys in
+      omega (arith, meets, needed, enough, less)
+
+  dealt_match : (k : ℕ) → key_place k < honest.counts.key → AreKeyBit n (λ p. (own p).part.offset) (dealt_key k)
+  dealt_match k less =
+      subst (λ (part : ℕ → Part). AreKeyBit n (λ p. (part p).offset) (λ p. get_or (part p).keys (key_place k) no_key_bit)) parts_are
+      (honest.honest.key (key_place k) no_part no_key_bit less)
+
+  record_is : (k p : ℕ) → p < n → party.key_record (at p) k ≡ party.low_keys (dealt_key k p)
+  record_is k p h = ap (λ (b : Needs). party.low_keys (key_bit_at (own p).part.keys (b.key + (offset plan g).key + k))) (honest.bases_are p h)
+
+  pub records_match : (needs_at plan g).key ≡ wide → AreKeyBits n wide (λ p. (own p).part.offset % 2 ^ 128) (λ p. party.key_record (at p))
+  records_match needed k less j h =
+      let records : ℕ → KeyBit = λ p. party.key_record (at p) k in
+      let keys : ℕ → ℕ = λ p. key_at (dealt_key k p).times j in
+      xor_to_same n (λ p. key_at (records p).times j) (λ p. keys p % 2 ^ 128)
+      (λ p a. ap (λ (r : KeyBit). key_at r.times j) (record_is k p a) ∙ key_cut (dealt_key k p).times j)
+      ∙ (xor_cut n keys
+      ∙ (ap (λ m. m % 2 ^ 128) (dealt_match k (keys_in_stock needed k less) j h)
+      ∙ (times_cut (parity_to n (λ p. (dealt_key k p).bit)) (own j).part.offset
+      ∙ ap (λ b. times b ((own j).part.offset % 2 ^ 128))
+      (parity-same n (λ p. (dealt_key k p).bit) (λ p. (records p).bit) (λ p a. ap (λ (r : KeyBit). r.bit) (sym (record_is k p a)))))))
+
+  pub offsets_odd : AreOdd n (λ p. (own p).part.offset % 2 ^ 128)
+  offsets_odd j h =
+      let parts = map (λ (o : Own). o.part) owns in
+      let within : j < length parts = subst (λ m. j < m) (sym (length_mapped (λ (o : Own). o.part) owns ∙ honest.each)) h in
+      bit-low (own j).part.offset 128 0 (omega arith)
+      ∙ ap (λ d. d == 1) (ap (λ (part : ℕ → Part). bit_at (part j).offset 0) (sym parts_are) ∙ honest.honest.odd j no_part within)

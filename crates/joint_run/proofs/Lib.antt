@@ -1,3 +1,4 @@
+pub mod Converting
 pub mod Causal
 pub mod Unique
 pub mod Bytes
@@ -14,3 +15,10 @@ pub mod Narrow
 pub mod Lengths
 pub mod Uses
 pub mod Following
+pub mod Keys
+pub mod KeyValues
+pub mod MasksRight
+pub mod Entering
+pub mod Garbling
+pub mod Numbers
+pub mod WiresRight

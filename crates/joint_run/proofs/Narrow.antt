@@ -1,12 +1,12 @@
--- In a joint run each share of a vector is below the width of its gate, whatever the own data are. So each payload of
--- vectors has the shape that the plan states for it.
+-- In a joint run each share of a vector, each share of a mask and all masked bits are below the width of their gate,
+-- whatever the own data are. So each payload of vectors has the shape that the plan states for it.
 use Rattle.std.proofs.Common.{ℕ, zero, suc, ◌≡◌, ◌<◌, ◌+◌, ◌*◌, ◌%◌, ◌^◌, Bool, true, false, cond, List, [], ◌∷◌, ◌++◌, length, take, drop, Option, Some, None, refl, sym, ◌∙◌, ap, ap₂, subst, append-nil}
 use Rattle.std.specs.Prelude.{slice_get, get_or, nat_eq, nat_le, nat_lt, not, ◌==◌, ◌||◌, ◌&&◌, ◌/◌, bit_and, bit_xor, if◌then◌else◌}
 use Rattle.std.specs.List.{list_any, AllByRecursion}
 use Rattle.std.specs.Option.{unwrap_or}
 use Rattle.std.proofs.Math.Nat.{mod-eq_of_lt, mod-lt}
 use Rattle.std.proofs.Math.Seq.{take-append_seam, drop-append_seam}
-use Rattle.std.proofs.lemmas.Bool.{eqb-false, eq-eqb, ltb-true, and_parts, lt-leb}
+use Rattle.std.proofs.lemmas.Bool.{eqb-true, eqb-false, eq-eqb, ltb-true, and_parts, lt-leb}
 use Rattle.std.proofs.lemmas.Nat.{xor_lt, pow_pos}
 use Rattle.byteorder.specs.Endian.{big_bytes, big_number}
 use Rattle.byteorder.specs.Numbers.{big_from-bytes, length-bytes_high_first}
@@ -15,14 +15,14 @@ use Rattle.message_demux.specs.declared.slots.Shape.{Shape}
 use Rattle.message_demux.specs.declared.slots.Shape.TheVariants.{Vectors}
 use Rattle.message_demux.specs.Slots as slots
 use Rattle.message_demux.specs.Slots.{vector_bytes, overflows, has_high_bits}
-use Rattle.plan_gates.specs.Gate.{Kind, Gate, Vector, vector as vector_use, gives, width_at, InA, ConstA, AddA, SubA, AddConstA, MulConstA, MulA, OutA, InB, ConstB, XorB, XorConstB, SliceB, JoinB, AndB, OutB}
-use Rattle.plan_gates.specs.Plan.{Gates, IsPlan, IsGate, IsOperand, sizes_of, has_keys}
-use Rattle.plan_gates.proofs.KeyLemmas.{unkeyed_at}
+use Rattle.plan_gates.specs.Gate.{Kind, Gate, Given, Use, Vector, Mask, Online, vector as vector_use, mask as mask_use, online as online_use, gives, width_at, InA, MulA, OutA, InB, ConstB, XorB, XorConstB, SliceB, JoinB, AndB, OutB, KeyMask, ConstMask, XorMask, FlipMask, SliceMask, JoinMask, InOnline, ZeroOnline, XorOnline, SliceOnline, JoinOnline, Garble, EvalY, YToB, ShareAOnline, ShareBOnline, BToA}
+use Rattle.plan_gates.specs.Plan.{Gates, IsPlan, IsGate, IsOperand, sizes_of, has_conversions}
+use Rattle.plan_gates.proofs.KeyLemmas.{unconverted_at}
 use Rattle.plan_gates.specs.declared.message.Message.{Message}
 use Rattle.plan_gates.specs.Messages.{words, vectors, messages_of, messages_at, are_two}
 use Rattle.share_types.specs.Wires.{includes}
 use Rattle.joint_run.specs.Party as party
-use Rattle.joint_run.specs.Party.{Own, Value, Hand, vector_share, hand_at, wires_before, party_value, value_at, gate_value, sends_at, gate_sends, before, silence, opened_vector}
+use Rattle.joint_run.specs.Party.{Own, Value, Hand, vector_share, mask_part, active_part, Told, hand_at, wires_before, party_value, value_at, gate_value, sends_at, gate_sends, before, silence, opened_vector}
 use Rattle.joint_run.specs.Joint.{Payloads, column, IsJoint}
 use Rattle.joint_run.specs.Honest.{own_at}
 use Rattle.joint_run.specs.Laws.{PayloadsHaveTheirShapes}
@@ -30,7 +30,11 @@ use Rattle.joint_run.specs.Payload.{vectors_bytes, vector_in}
 use Rattle.joint_run.proofs.Bytes.{fits_bytes}
 use Rattle.joint_run.proofs.Causal.{strong}
 use Rattle.joint_run.proofs.Sharing.{choose, short_vector, and_small, join_small, vector_first, vector_second}
-use Rattle.joint_run.proofs.Run.{vector_is, sent, wide_is}
+use Rattle.joint_run.proofs.Run.{wire_is, sent, wide_is}
+use Rattle.bmr_keys.proofs.Labels.{number-each_below}
+use Rattle.bmr_garble.specs.Product.{key_bit_at}
+use Rattle.bmr_eval.specs.Active.{result_key}
+use Rattle.share_types.specs.Keys.{bit}
 use Rattle.boolean_gmw.specs.Shares.{closed_share}
 use Rattle.boolean_gmw.proofs.Xors.{xor_small}
 use Rattle.mot_base.proofs.Lists.{equal_turned as turned}
@@ -90,7 +94,14 @@ two_parts n from to both =
 
 -- ---- shares
 
-module _ (plan : Gates) (owns : List Own) (table : Payloads) (valid : IsPlan plan) (unkeyed : has_keys plan ≡ false) (each : length owns ≡ plan.parties) (joint : IsJoint plan owns table) where
+-- the vector of a value: a share, that of a mask, or the masked bits
+abbrev pub bits_in : ℕ → Given → Value → ℕ
+bits_in n Vector v = vector_share v
+bits_in n Mask v = (mask_part n v).mask
+bits_in n Online v = (active_part n v).masked
+bits_in n _ v = 0
+
+module _ (plan : Gates) (owns : List Own) (table : Payloads) (valid : IsPlan plan) (pure : has_conversions plan ≡ false) (each : length owns ≡ plan.parties) (joint : IsJoint plan owns table) where
   abbrev n : ℕ
   n = plan.parties
 
@@ -115,21 +126,26 @@ module _ (plan : Gates) (owns : List Own) (table : Payloads) (valid : IsPlan pla
   AreSmall g f = (p : ℕ) → p < n → f p < 2 ^ wide g
 
   abbrev IsNarrow : ℕ → Type 0
-  IsNarrow g = (here : Gate) → slice_get plan.gates g ≡ Some here → gives here.kind ≡ Vector → AreSmall g (λ p. vector_share (value g p))
+  IsNarrow g = (here : Gate) → slice_get plan.gates g ≡ Some here → AreSmall g (λ p. bits_in n (gives here.kind) (value g p))
 
   abbrev AreNarrow : ℕ → Type 0
   AreNarrow g = (k : ℕ) → k < g → IsNarrow k
 
-  operand : (g x : ℕ) → AreNarrow g → IsOperand plan.gates g (vector_use x) → (p : ℕ) → p < n → party.vector (at g p) x < 2 ^ wide x
-  operand g x ih (less, earlier, found, vector) p h =
-      subst (λ s. s < 2 ^ wide x) (sym (vector_is plan owns table each joint g x p less)) (ih x less earlier found vector p h)
+  -- what stands at an operand's place
+  abbrev there : ℕ → ℕ → ℕ → Value
+  there g p x = get_or (at g p).wires x (Told None)
+
+  operand : (g : ℕ) (used : Use) → AreNarrow g → IsOperand plan.gates g used → (p : ℕ) → p < n → bits_in n used.given (there g p used.gate) < 2 ^ wide used.gate
+  operand g used ih (less, earlier, found, is) p h =
+      subst (λ v. bits_in n used.given v < 2 ^ wide used.gate) (sym (wire_is plan owns table each joint g used.gate p less))
+      (subst (λ given. bits_in n given (value used.gate p) < 2 ^ wide used.gate) is (ih used.gate less earlier found p h))
 
   -- an operand as wide as its gate
-  fitting : (g x width : ℕ) (kind : Kind) → AreNarrow g → slice_get plan.gates g ≡ Some (record { kind = kind; width = width }) →
-      IsOperand plan.gates g (vector_use x) → wide x ≡ width → AreSmall g (λ p. party.vector (at g p) x)
-  fitting g x width kind ih found is fit p h =
-      let same : wide x ≡ wide g = fit ∙ sym (wide_is plan g (record { kind = kind; width = width }) found) in
-      subst (λ w. party.vector (at g p) x < 2 ^ w) same (operand g x ih is p h)
+  fitting : (g : ℕ) (used : Use) (width : ℕ) (kind : Kind) → AreNarrow g → slice_get plan.gates g ≡ Some (record { kind = kind; width = width }) →
+      IsOperand plan.gates g used → wide used.gate ≡ width → AreSmall g (λ p. bits_in n used.given (there g p used.gate))
+  fitting g used width kind ih found is fit p h =
+      let same : wide used.gate ≡ wide g = fit ∙ sym (wide_is plan g (record { kind = kind; width = width }) found) in
+      subst (λ w. bits_in n used.given (there g p used.gate) < 2 ^ w) same (operand g used ih is p h)
 
   constant_small : (g c width : ℕ) (kind : Kind) → slice_get plan.gates g ≡ Some (record { kind = kind; width = width }) → c < 2 ^ width → c < 2 ^ wide g
   constant_small g c width kind found small = subst (λ w. c < 2 ^ w) (sym (wide_is plan g (record { kind = kind; width = width }) found)) small
@@ -189,63 +205,139 @@ module _ (plan : Gates) (owns : List Own) (table : Payloads) (valid : IsPlan pla
       (xor_lt w c (bit_and d b) (bits_small g 2 p) (and_small w d b d_small)) (and_small w e a e_small))
       (public_small g (bit_and d e) p (and_small w d e d_small))
 
+  -- what a party closes an AND with is small, where d and e are opened of parts that are small
+  opened_pair_small : (g p : ℕ) (left right : ℕ → ℕ) → p < n → AreSmall g left → AreSmall g right →
+      ((q : ℕ) → q < n → (q ≡ p → ⊥) → table g 0 q p ≡ vectors_bytes (wide g) (left q ∷ right q ∷ [])) →
+      closed_share p (party.bit_triple (at g p)) (opened_vector (at g p) (left p) (λ q. table g 0 q p) 0) (opened_vector (at g p) (right p) (λ q. table g 0 q p) 1) < 2 ^ wide g
+  opened_pair_small g p left right h small_left small_right bytes =
+      let firsts : (q : ℕ) → q < n → (q ≡ p → ⊥) → vector_in (wide g) (table g 0 q p) 0 < 2 ^ wide g =
+      λ q b apart. subst (λ v. v < 2 ^ wide g)
+      (sym (ap (λ s. vector_in (wide g) s 0) (bytes q b apart) ∙ vector_first (wide g) (left q) (right q ∷ []) (small_left q b)))
+      (small_left q b) in
+      let seconds : (q : ℕ) → q < n → (q ≡ p → ⊥) → vector_in (wide g) (table g 0 q p) 1 < 2 ^ wide g =
+      λ q b apart. subst (λ v. v < 2 ^ wide g)
+      (sym (ap (λ s. vector_in (wide g) s 1) (bytes q b apart) ∙ vector_second (wide g) (left q) (right q) [] (small_right q b)))
+      (small_right q b) in
+      closed_small g (opened_vector (at g p) (left p) (λ q. table g 0 q p) 0) (opened_vector (at g p) (right p) (λ q. table g 0 q p) 1) p
+      (opened_small g p (left p) (λ q. vector_in (wide g) (table g 0 q p) 0) (small_left p h) firsts)
+      (opened_small g p (right p) (λ q. vector_in (wide g) (table g 0 q p) 1) (small_right p h) seconds)
+
   and_vector_small : (g x y width : ℕ) → slice_get plan.gates g ≡ Some (record { kind = AndB x y; width = width }) →
       AreSmall g (λ p. party.vector (at g p) x) → AreSmall g (λ p. party.vector (at g p) y) →
       AreSmall g (λ p. party.conjunction (at g p) x y (λ q. table g 0 q p))
   and_vector_small g x y width found small_x small_y p h =
-      let left : ℕ → ℕ = λ q. party.left_vector (at g q) x in
-      let right : ℕ → ℕ = λ q. party.right_vector (at g q) y in
-      let bytes : (q : ℕ) → q < n → (q ≡ p → ⊥) → table g 0 q p ≡ vectors_bytes (wide g) (left q ∷ right q ∷ []) =
-      λ q b apart. sent_in g 0 p q (record { kind = AndB x y; width = width }) h b apart found in
-      let firsts : (q : ℕ) → q < n → (q ≡ p → ⊥) → vector_in (wide g) (table g 0 q p) 0 < 2 ^ wide g =
-      λ q b apart. subst (λ v. v < 2 ^ wide g)
-      (sym (ap (λ s. vector_in (wide g) s 0) (bytes q b apart) ∙ vector_first (wide g) (left q) (right q ∷ []) (left_small g x small_x q b)))
-      (left_small g x small_x q b) in
-      let seconds : (q : ℕ) → q < n → (q ≡ p → ⊥) → vector_in (wide g) (table g 0 q p) 1 < 2 ^ wide g =
-      λ q b apart. subst (λ v. v < 2 ^ wide g)
-      (sym (ap (λ s. vector_in (wide g) s 1) (bytes q b apart) ∙ vector_second (wide g) (left q) (right q) [] (right_small g y small_y q b)))
-      (right_small g y small_y q b) in
-      closed_small g (opened_vector (at g p) (left p) (λ q. table g 0 q p) 0) (opened_vector (at g p) (right p) (λ q. table g 0 q p) 1) p
-      (opened_small g p (left p) (λ q. vector_in (wide g) (table g 0 q p) 0) (left_small g x small_x p h) firsts)
-      (opened_small g p (right p) (λ q. vector_in (wide g) (table g 0 q p) 1) (right_small g y small_y p h) seconds)
+      opened_pair_small g p (λ q. party.left_vector (at g q) x) (λ q. party.right_vector (at g q) y) h (left_small g x small_x) (right_small g y small_y)
+      (λ q b apart. sent_in g 0 p q (record { kind = AndB x y; width = width }) h b apart found)
 
-  -- all gates over vectors
+  -- garbled tables
+  pub mask_left_small : (g u : ℕ) → AreSmall g (λ p. (party.mask (at g p) u).mask) → AreSmall g (λ p. party.left_mask (at g p) u)
+  mask_left_small g u small p h = xor_lt (wide g) (party.mask (at g p) u).mask (party.bits_of (at g p) 0) (small p h) (bits_small g 0 p)
+
+  pub mask_right_small : (g v : ℕ) → AreSmall g (λ p. (party.mask (at g p) v).mask) → AreSmall g (λ p. party.right_mask (at g p) v)
+  mask_right_small g v small p h = xor_lt (wide g) (party.mask (at g p) v).mask (party.bits_of (at g p) 1) (small p h) (bits_small g 1 p)
+
+  fresh_small : (g p : ℕ) → (party.fresh (at g p)).mask < 2 ^ wide g
+  fresh_small g p = number-each_below (wide g) (λ i. (key_bit_at (own p).part.keys ((party.first (at g p)).key + i)).bit)
+
+  pub covered_small : (g u v m width : ℕ) → slice_get plan.gates g ≡ Some (record { kind = Garble u v m; width = width }) →
+      AreSmall g (λ p. (party.mask (at g p) u).mask) → AreSmall g (λ p. (party.mask (at g p) v).mask) →
+      AreSmall g (λ p. party.covered_product (at g p) u v (λ q. table g 0 q p))
+  covered_small g u v m width found small_u small_v p h =
+      xor_lt (wide g) (party.mask_product (at g p) u v (λ q. table g 0 q p)) (party.fresh (at g p)).mask
+      (opened_pair_small g p (λ q. party.left_mask (at g q) u) (λ q. party.right_mask (at g q) v) h (mask_left_small g u small_u) (mask_right_small g v small_v)
+      (λ q b apart. sent_in g 0 p q (record { kind = Garble u v m; width = width }) h b apart found))
+      (fresh_small g p)
+
+  -- entries
+  abbrev masked_by : ℕ → ℕ → ℕ → ℕ → ℕ → ℕ
+  masked_by g p k low m = party.masked_by_owner (at g p) m (party.input_bits (at g p) k low) (λ q. table g 0 q p)
+
+  pub owner_masks : (g owner k low m width : ℕ) → owner < n → slice_get plan.gates g ≡ Some (record { kind = InOnline owner k low m; width = width }) →
+      AreSmall g (λ p. (party.mask (at g p) m).mask) → masked_by g owner k low m < 2 ^ wide g
+  owner_masks g owner k low m width inside found small =
+      let masks : ℕ → ℕ = λ q. (party.mask (at g q) m).mask in
+      let bytes : (q : ℕ) → q < n → (q ≡ owner → ⊥) → table g 0 q owner ≡ vectors_bytes (wide g) (masks q ∷ []) =
+      λ q b apart. sent_in g 0 owner q (record { kind = InOnline owner k low m; width = width }) inside b apart found
+      ∙ ap (λ me. if me then vectors_bytes (wide g) (masks q ∷ []) else []) (eq-eqb owner owner refl) in
+      xor_lt (wide g) (party.input_bits (at g owner) k low) (opened_vector (at g owner) (masks owner) (λ q. table g 0 q owner) 0)
+      (mod-lt (party.input (at g owner) k / 2 ^ low) (pow_pos (wide g)))
+      (opened_small g owner (masks owner) (λ q. vector_in (wide g) (table g 0 q owner) 0) (small owner inside)
+      (λ q b apart. subst (λ v. v < 2 ^ wide g)
+      (sym (ap (λ s. vector_in (wide g) s 0) (bytes q b apart) ∙ vector_first (wide g) (masks q) [] (small q b)))
+      (small q b)))
+
+  entry_small : (g owner k low m width p : ℕ) → p < n → owner < n → slice_get plan.gates g ≡ Some (record { kind = InOnline owner k low m; width = width }) →
+      AreSmall g (λ q. (party.mask (at g q) m).mask) →
+      (b : Bool) → (p == owner) ≡ b → cond b (masked_by g p k low m) (vector_in (wide g) (table g 1 owner p) 0) < 2 ^ wide g
+  entry_small g owner k low m width p h inside found small true e =
+      subst (λ q. masked_by g q k low m < 2 ^ wide g) (sym (eqb-true p owner e)) (owner_masks g owner k low m width inside found small)
+  entry_small g owner k low m width p h inside found small false e =
+      let t = masked_by g owner k low m in
+      let t_small = owner_masks g owner k low m width inside found small in
+      let bytes : table g 1 owner p ≡ vectors_bytes (wide g) (t ∷ []) =
+      sent_in g 1 p owner (record { kind = InOnline owner k low m; width = width }) h inside (λ is. eqb-false p owner e (sym is)) found
+      ∙ ap (λ me. if me then vectors_bytes (wide g) (t ∷ []) else []) (eq-eqb owner owner refl) in
+      subst (λ v. v < 2 ^ wide g) (sym (ap (λ s. vector_in (wide g) s 0) bytes ∙ vector_first (wide g) t [] t_small)) t_small
+
+  -- all gates
+  joined_small : (g x y : ℕ) (a b : ℕ) → wide g ≡ wide x + wide y → a < 2 ^ wide x → b < 2 ^ wide y → a + 2 ^ wide x * b < 2 ^ wide g
+  joined_small g x y a b both p q = subst (λ w. a + 2 ^ wide x * b < 2 ^ w) (sym both) (join_small (wide x) (wide y) a b p q)
+
   value_small : (g : ℕ) (kind : Kind) (width : ℕ) → AreNarrow g → slice_get plan.gates g ≡ Some (record { kind = kind; width = width }) →
-      IsGate plan g (record { kind = kind; width = width }) → gives kind ≡ Vector →
-      AreSmall g (λ p. vector_share (gate_value kind (at g p) (column table p g)))
-  value_small g (InB owner k low) width ih found is vector p h = input_small g k low owner width p h is.party found (owner == p) refl
-  value_small g (ConstB c) width ih found is vector p h = public_small g c p (constant_small g c width (ConstB c) found is.small)
-  value_small g (XorB x y) width ih found is vector p h =
+      IsGate plan g (record { kind = kind; width = width }) →
+      AreSmall g (λ p. bits_in n (gives kind) (gate_value kind (at g p) (column table p g)))
+  value_small g (InB owner k low) width ih found is p h = input_small g k low owner width p h is.party found (owner == p) refl
+  value_small g (ConstB c) width ih found is p h = public_small g c p (constant_small g c width (ConstB c) found is.small)
+  value_small g (XorB x y) width ih found is p h =
       xor_lt (wide g) (party.vector (at g p) x) (party.vector (at g p) y)
-      (fitting g x width (XorB x y) ih found is.uses.0 is.fit.0 p h) (fitting g y width (XorB x y) ih found is.uses.1.0 is.fit.1.0 p h)
-  value_small g (XorConstB x c) width ih found is vector p h =
-      xor_lt (wide g) (party.vector (at g p) x) (part_of_public p c) (fitting g x width (XorConstB x c) ih found is.uses.0 is.fit.0 p h)
+      (fitting g (vector_use x) width (XorB x y) ih found is.uses.0 is.fit.0 p h) (fitting g (vector_use y) width (XorB x y) ih found is.uses.1.0 is.fit.1.0 p h)
+  value_small g (XorConstB x c) width ih found is p h =
+      xor_lt (wide g) (party.vector (at g p) x) (part_of_public p c) (fitting g (vector_use x) width (XorConstB x c) ih found is.uses.0 is.fit.0 p h)
       (public_small g c p (constant_small g c width (XorConstB x c) found is.small))
-  value_small g (SliceB x low) width ih found is vector p h = mod-lt (party.vector (at g p) x / 2 ^ low) (pow_pos (wide g))
-  value_small g (JoinB x y) width ih found is vector p h =
-      let both : wide g ≡ wide x + wide y =
-      wide_is plan g (record { kind = JoinB x y; width = width }) found ∙ is.fit in
-      subst (λ w. party.vector (at g p) x + 2 ^ wide x * party.vector (at g p) y < 2 ^ w) (sym both)
-      (join_small (wide x) (wide y) (party.vector (at g p) x) (party.vector (at g p) y) (operand g x ih is.uses.0 p h) (operand g y ih is.uses.1.0 p h))
-  value_small g (AndB x y) width ih found is vector p h =
+  value_small g (SliceB x low) width ih found is p h = mod-lt (party.vector (at g p) x / 2 ^ low) (pow_pos (wide g))
+  value_small g (JoinB x y) width ih found is p h =
+      joined_small g x y (party.vector (at g p) x) (party.vector (at g p) y) (wide_is plan g (record { kind = JoinB x y; width = width }) found ∙ is.fit)
+      (operand g (vector_use x) ih is.uses.0 p h) (operand g (vector_use y) ih is.uses.1.0 p h)
+  value_small g (AndB x y) width ih found is p h =
       and_vector_small g x y width found
-      (fitting g x width (AndB x y) ih found is.uses.0 is.fit.0) (fitting g y width (AndB x y) ih found is.uses.1.0 is.fit.1.0) p h
-  value_small g (InA owner k) width ih found is vector p h = cc
-  value_small g (ConstA c) width ih found is vector p h = cc
-  value_small g (AddA x y) width ih found is vector p h = cc
-  value_small g (SubA x y) width ih found is vector p h = cc
-  value_small g (AddConstA x c) width ih found is vector p h = cc
-  value_small g (MulConstA x c) width ih found is vector p h = cc
-  value_small g (MulA x y) width ih found is vector p h = cc
-  value_small g (OutA x to) width ih found is vector p h = cc
-  value_small g (OutB x to) width ih found is vector p h = cc
-  value_small g kind width ih found is vector p h =
-      let never = unkeyed_at plan g (record { kind = kind; width = width }) unkeyed found in cc
+      (fitting g (vector_use x) width (AndB x y) ih found is.uses.0 is.fit.0) (fitting g (vector_use y) width (AndB x y) ih found is.uses.1.0 is.fit.1.0) p h
+  value_small g KeyMask width ih found is p h = fresh_small g p
+  value_small g (ConstMask c) width ih found is p h = public_small g c p (constant_small g c width (ConstMask c) found is.small)
+  value_small g (XorMask u v) width ih found is p h =
+      xor_lt (wide g) (party.mask (at g p) u).mask (party.mask (at g p) v).mask
+      (fitting g (mask_use u) width (XorMask u v) ih found is.uses.0 is.fit.0 p h) (fitting g (mask_use v) width (XorMask u v) ih found is.uses.1.0 is.fit.1.0 p h)
+  value_small g (FlipMask u c) width ih found is p h =
+      xor_lt (wide g) (party.mask (at g p) u).mask (part_of_public p c) (fitting g (mask_use u) width (FlipMask u c) ih found is.uses.0 is.fit.0 p h)
+      (public_small g c p (constant_small g c width (FlipMask u c) found is.small))
+  value_small g (SliceMask u low) width ih found is p h = mod-lt ((party.mask (at g p) u).mask / 2 ^ low) (pow_pos (wide g))
+  value_small g (JoinMask u v) width ih found is p h =
+      joined_small g u v ((party.mask (at g p) u).mask % 2 ^ wide u) (party.mask (at g p) v).mask (wide_is plan g (record { kind = JoinMask u v; width = width }) found ∙ is.fit)
+      (mod-lt (party.mask (at g p) u).mask (pow_pos (wide u))) (operand g (mask_use v) ih is.uses.1.0 p h)
+  value_small g (InOnline owner k low m) width ih found is p h =
+      entry_small g owner k low m width p h is.party found (fitting g (mask_use m) width (InOnline owner k low m) ih found is.uses.0 is.fit.0) (p == owner) refl
+  value_small g ZeroOnline width ih found is p h = pow_pos (wide g)
+  value_small g (XorOnline u v) width ih found is p h =
+      xor_lt (wide g) (party.online (at g p) u).masked (party.online (at g p) v).masked
+      (fitting g (online_use u) width (XorOnline u v) ih found is.uses.0 is.fit.0 p h) (fitting g (online_use v) width (XorOnline u v) ih found is.uses.1.0 is.fit.1.0 p h)
+  value_small g (SliceOnline u low) width ih found is p h = mod-lt ((party.online (at g p) u).masked / 2 ^ low) (pow_pos (wide g))
+  value_small g (JoinOnline u v) width ih found is p h =
+      joined_small g u v ((party.online (at g p) u).masked % 2 ^ wide u) (party.online (at g p) v).masked (wide_is plan g (record { kind = JoinOnline u v; width = width }) found ∙ is.fit)
+      (mod-lt (party.online (at g p) u).masked (pow_pos (wide u))) (operand g (online_use v) ih is.uses.1.0 p h)
+  value_small g (EvalY t u v) width ih found is p h =
+      number-each_below (wide g) (λ i. bit (result_key n (party.table (at g p) t) t (party.online (at g p) u) (party.online (at g p) v) i 0) 0)
+  value_small g (YToB m o) width ih found is p h =
+      xor_lt (wide g) (party.mask (at g p) m).mask (part_of_public p (party.online (at g p) o).masked)
+      (fitting g (mask_use m) width (YToB m o) ih found is.uses.0 is.fit.0 p h)
+      (public_small g (party.online (at g p) o).masked p (fitting g (online_use o) width (YToB m o) ih found is.uses.1.0 is.fit.1.0 p h))
+  value_small g _ width ih found is p h = pow_pos (wide g)
 
-  narrow : (g : ℕ) → IsNarrow g
-  narrow = strong IsNarrow (λ g ih here found vector p h.
-      subst (λ v. vector_share v < 2 ^ wide g) (sym (ap (λ o. value_at o (at g p) (column table p g)) found))
-      (value_small g here.kind here.width ih found (valid.each g here found) vector p h))
+  pub narrow : (g : ℕ) → IsNarrow g
+  narrow = strong IsNarrow (λ g ih here found p h.
+      subst (λ v. bits_in n (gives here.kind) v < 2 ^ wide g) (sym (ap (λ o. value_at o (at g p) (column table p g)) found))
+      (value_small g here.kind here.width ih found (valid.each g here found) p h))
+
+  pub operand_narrow : (g : ℕ) (used : Use) → IsOperand plan.gates g used → (p : ℕ) → p < n → bits_in n used.given (there g p used.gate) < 2 ^ wide used.gate
+  operand_narrow g used is = operand g used (λ k less. narrow k) is
 
   -- ---- payloads
 
@@ -266,8 +358,8 @@ module _ (plan : Gates) (owns : List Own) (table : Payloads) (valid : IsPlan pla
       let vs : List ℕ = party.left_vector (at g from) x ∷ party.right_vector (at g from) y ∷ [] in
       let is = valid.each g (record { kind = AndB x y; width = width }) found in
       vectors_shaped true (wide g) width 2 vs m (table g 0 from to) (wide_is plan g (record { kind = AndB x y; width = width }) found) refl (
-        left_small g x (fitting g x width (AndB x y) (λ k less. narrow k) found is.uses.0 is.fit.0) from a,
-        (right_small g y (fitting g y width (AndB x y) (λ k less. narrow k) found is.uses.1.0 is.fit.1.0) from a, tt),
+        left_small g x (fitting g (vector_use x) width (AndB x y) (λ k less. narrow k) found is.uses.0 is.fit.0) from a,
+        (right_small g y (fitting g (vector_use y) width (AndB x y) (λ k less. narrow k) found is.uses.1.0 is.fit.1.0) from a, tt),
       )
       (sent_in g 0 to from (record { kind = AndB x y; width = width }) b a apart found) e
   kind_shaped g zero from to (OutB x receiver) width a b apart found m e =
@@ -275,7 +367,7 @@ module _ (plan : Gates) (owns : List Own) (table : Payloads) (valid : IsPlan pla
       let is = valid.each g (record { kind = OutB x receiver; width = width }) found in
       vectors_shaped (includes receiver to) (wide g) width 1 vs m (table g 0 from to)
       (wide_is plan g (record { kind = OutB x receiver; width = width }) found) refl
-      (fitting g x width (OutB x receiver) (λ k less. narrow k) found is.uses.0 is.fit.0 from a, tt)
+      (fitting g (vector_use x) width (OutB x receiver) (λ k less. narrow k) found is.uses.0 is.fit.0 from a, tt)
       (sent_in g 0 to from (record { kind = OutB x receiver; width = width }) b a apart found) e
   kind_shaped g (suc r) from to (InA owner k) width a b apart found m e = cc
   kind_shaped g (suc r) from to (MulA x y) width a b apart found m e = cc
@@ -283,18 +375,49 @@ module _ (plan : Gates) (owns : List Own) (table : Payloads) (valid : IsPlan pla
   kind_shaped g (suc r) from to (InB owner k low) width a b apart found m e = cc
   kind_shaped g (suc r) from to (AndB x y) width a b apart found m e = cc
   kind_shaped g (suc r) from to (OutB x receiver) width a b apart found m e = cc
-  kind_shaped g r from to (ConstA c) width a b apart found m e = cc
-  kind_shaped g r from to (AddA x y) width a b apart found m e = cc
-  kind_shaped g r from to (SubA x y) width a b apart found m e = cc
-  kind_shaped g r from to (AddConstA x c) width a b apart found m e = cc
-  kind_shaped g r from to (MulConstA x c) width a b apart found m e = cc
-  kind_shaped g r from to (ConstB c) width a b apart found m e = cc
-  kind_shaped g r from to (XorB x y) width a b apart found m e = cc
-  kind_shaped g r from to (XorConstB x c) width a b apart found m e = cc
-  kind_shaped g r from to (SliceB x low) width a b apart found m e = cc
-  kind_shaped g r from to (JoinB x y) width a b apart found m e = cc
-  kind_shaped g r from to kind width a b apart found m e =
-      let never = unkeyed_at plan g (record { kind = kind; width = width }) unkeyed found in cc
+  kind_shaped g zero from to (InOnline owner k low o) width a b apart found m e =
+      let vs : List ℕ = (party.mask (at g from) o).mask ∷ [] in
+      let is = valid.each g (record { kind = InOnline owner k low o; width = width }) found in
+      vectors_shaped (to == owner) (wide g) width 1 vs m (table g 0 from to) (wide_is plan g (record { kind = InOnline owner k low o; width = width }) found) refl
+      (fitting g (mask_use o) width (InOnline owner k low o) (λ k less. narrow k) found is.uses.0 is.fit.0 from a, tt)
+      (sent_in g 0 to from (record { kind = InOnline owner k low o; width = width }) b a apart found) e
+  kind_shaped g (suc zero) from to (InOnline owner k low o) width a b apart found m e = told_by (from == owner) refl e
+    where
+      told_by : (c : Bool) → (from == owner) ≡ c → (if c then Some (vectors 1 width) else None) ≡ Some m → has_high_bits m.shape (table g 1 from to) ≡ false
+      told_by true is e =
+          let vs : List ℕ = masked_by g from k low o ∷ [] in
+          let here = valid.each g (record { kind = InOnline owner k low o; width = width }) found in
+          let small = owner_masks g owner k low o width here.party found (fitting g (mask_use o) width (InOnline owner k low o) (λ k less. narrow k) found here.uses.0 here.fit.0) in
+          vectors_shaped true (wide g) width 1 vs m (table g 1 from to) (wide_is plan g (record { kind = InOnline owner k low o; width = width }) found) refl
+          (subst (λ q. masked_by g q k low o < 2 ^ wide g) (sym (eqb-true from owner is)) small, tt)
+          (sent_in g 1 to from (record { kind = InOnline owner k low o; width = width }) b a apart found ∙ ap (λ me. if me then vectors_bytes (wide g) vs else []) is) e
+      told_by false is e = cc
+  kind_shaped g (suc (suc zero)) from to (InOnline owner k low o) width a b apart found m e = words_shaped true (2 * width) m (table g 2 from to) e
+  kind_shaped g zero from to (Garble u v w) width a b apart found m e =
+      let vs : List ℕ = party.left_mask (at g from) u ∷ party.right_mask (at g from) v ∷ [] in
+      let is = valid.each g (record { kind = Garble u v w; width = width }) found in
+      vectors_shaped true (wide g) width 2 vs m (table g 0 from to) (wide_is plan g (record { kind = Garble u v w; width = width }) found) refl (
+        mask_left_small g u (fitting g (mask_use u) width (Garble u v w) (λ k less. narrow k) found is.uses.0 is.fit.0) from a,
+        (mask_right_small g v (fitting g (mask_use v) width (Garble u v w) (λ k less. narrow k) found is.uses.1.0 is.fit.1.0) from a, tt),
+      )
+      (sent_in g 0 to from (record { kind = Garble u v w; width = width }) b a apart found) e
+  kind_shaped g (suc zero) from to (Garble u v w) width a b apart found m e =
+      let vs : List ℕ = party.covered_product (at g from) u v (λ q. table g 0 q from) ∷ [] in
+      let is = valid.each g (record { kind = Garble u v w; width = width }) found in
+      vectors_shaped true (wide g) width 1 vs m (table g 1 from to) (wide_is plan g (record { kind = Garble u v w; width = width }) found) refl (
+        covered_small g u v w width found (fitting g (mask_use u) width (Garble u v w) (λ k less. narrow k) found is.uses.0 is.fit.0)
+            (fitting g (mask_use v) width (Garble u v w) (λ k less. narrow k) found is.uses.1.0 is.fit.1.0) from a,
+        tt,
+      )
+      (sent_in g 1 to from (record { kind = Garble u v w; width = width }) b a apart found) e
+  kind_shaped g (suc (suc zero)) from to (Garble u v w) width a b apart found m e = words_shaped true (8 * n * width) m (table g 2 from to) e
+  kind_shaped g r from to (ShareAOnline owner x o) width a b apart found m e =
+      let no = unconverted_at plan g (record { kind = ShareAOnline owner x o; width = width }) pure found in cc
+  kind_shaped g r from to (ShareBOnline owner x o) width a b apart found m e =
+      let no = unconverted_at plan g (record { kind = ShareBOnline owner x o; width = width }) pure found in cc
+  kind_shaped g r from to (BToA x) width a b apart found m e =
+      let no = unconverted_at plan g (record { kind = BToA x; width = width }) pure found in cc
+  kind_shaped g r from to _ width a b apart found m e = cc
 
   gate_shaped : (g r from to : ℕ) (o : Option Gate) → slice_get plan.gates g ≡ o → from < n → to < n → (from ≡ to → ⊥) → (m : Message) →
       unwrap_or (slice_get (messages_at plan o from to) r) None ≡ Some m → has_high_bits m.shape (table g r from to) ≡ false
@@ -310,5 +433,5 @@ module _ (plan : Gates) (owns : List Own) (table : Payloads) (valid : IsPlan pla
       gate_shaped g r from to (slice_get plan.gates g) refl parts.0 parts.1 parts.2 m e
 
 pub payloads_have_their_shapes : PayloadsHaveTheirShapes
-payloads_have_their_shapes plan owns table valid unkeyed each joint g r from to m e =
-    shaped plan owns table valid unkeyed each joint g r from to (are_two plan.parties from to) refl m e
+payloads_have_their_shapes plan owns table valid pure each joint g r from to m e =
+    shaped plan owns table valid pure each joint g r from to (are_two plan.parties from to) refl m e

@@ -1,44 +1,34 @@
 -- In a joint run with honest records, the parties' values of each gate recombine to its plain number.
-use Rattle.std.proofs.Common.{ℕ, ◌≡◌, Bool, true, false, ◌<◌, ◌%◌, ◌^◌, List, length, Some, refl, sym, ◌∙◌, ap, subst}
-use Rattle.std.specs.Prelude.{slice_get, slice_index}
+use Rattle.std.proofs.Common.{ℕ, ◌≡◌, ◌<◌, ◌%◌, ◌^◌, List, length, Some, refl, sym, ◌∙◌, ap, ap₂, subst, false}
+use Rattle.std.specs.Prelude.{slice_get, slice_index, bit_xor}
 use Rattle.share_types.specs.declared.needs.Needs.{Needs}
 use Rattle.share_types.specs.Sums.{sum_to, xor_to}
 use Rattle.share_types.specs.Wires.{includes}
 use Rattle.share_types.proofs.Parties.{sum_to_same, xor_to_same}
-use Rattle.plan_gates.specs.Gate.{Kind, Gate, Given, Word, Vector, OutA, OutB, gives, is_of_keys, width_at, word as word_use, vector as vector_use}
+use Rattle.plan_gates.specs.Gate.{Kind, Gate, Given, Word, Vector, Mask, Online, Table, OutA, OutB, gives, width_at, word as word_use, vector as vector_use, mask as mask_use, online as online_use}
 use Rattle.plan_gates.specs.Gate as spec
-use Rattle.plan_gates.specs.Plan.{Gates, IsPlan, IsOperand, has_keys}
-use Rattle.plan_gates.proofs.KeyLemmas.{unkeyed_at}
-use Rattle.plan_gates.specs.Plain.{Outside, plain_before, number_at, number_of, seen_of}
+use Rattle.plan_gates.specs.Plan.{Gates, IsPlan, IsOperand, IsWire, has_conversions}
+use Rattle.plan_gates.specs.Plain.{Outside, number_at, number_of, seen_of}
+use Rattle.bmr_keys.specs.Wires.{IsActive}
 use Rattle.joint_run.specs.Party as party
-use Rattle.joint_run.specs.Party.{Own, Value, Hand, Rounds, wires_before, party_value, value_at, gate_value, word_share, vector_share, Told}
+use Rattle.joint_run.specs.Party.{Own, Value, Hand, Rounds, wires_before, party_value, value_at, gate_value, word_share, vector_share, mask_part, active_part, Told}
 use Rattle.joint_run.specs.Joint.{Payloads, column, IsJoint}
-use Rattle.joint_run.specs.Honest.{own_at, AreHonest, AreInputs, RecombineBy, Recombine}
-use Rattle.joint_run.specs.Laws.{EveryGateRecombines}
+use Rattle.joint_run.specs.Honest.{own_at, offset_of, AreHonest, AreInputs, RecombineBy, Recombine}
+use Rattle.joint_run.specs.Laws.{EveryGateRecombines, EveryWireRecombines}
 use Rattle.joint_run.proofs.Causal.{strong}
-use Rattle.joint_run.proofs.Grown.{grown-get}
+use Rattle.joint_run.proofs.Numbers.{plain, numbered as number, plain_get, plain_is}
+use Rattle.joint_run.proofs.Narrow.{operand_narrow}
+use Rattle.joint_run.proofs.WiresRight.{seen_wire, wire_right, wire_inside, wire_fits}
 use Rattle.joint_run.proofs.Sharing.{cut}
 use Rattle.joint_run.proofs.Run.{word_is, vector_is, sent, wide_is}
 use Rattle.joint_run.proofs.Standing.{hands, Hear, Stand}
 use Rattle.joint_run.proofs.Dealing.{triples_multiply, bit_triples_multiply}
 use Rattle.joint_run.proofs.WordsRight.{word_right, told_word}
 use Rattle.joint_run.proofs.VectorsRight.{vector_right, told_vector}
-use Rattle.mot_base.proofs.Lists.{index_at, inside_of, same_some as some_is}
-
--- what only gates of keys give
-abbrev is_keyed : Given → Bool
-is_keyed Word = false
-is_keyed Vector = false
-is_keyed spec.Told = false
-is_keyed _ = true
-
-keyed_never : (kind : Kind) → is_of_keys kind ≡ false → is_keyed (gives kind) ≡ false
-keyed_never (OutA x to) plain = refl
-keyed_never (OutB x to) plain = refl
-keyed_never _ plain = cc
+use Rattle.mot_base.proofs.Lists.{inside_of, same_some as some_is}
 
 module _ (plan : Gates) (owns : List Own) (bases : Needs) (session : ℕ) (outside : Outside) (table : Payloads)
-    (valid : IsPlan plan) (unkeyed : has_keys plan ≡ false) (honest : AreHonest plan owns bases session) (inputs_are : AreInputs plan owns outside.inputs) (joint : IsJoint plan owns table) where
+    (valid : IsPlan plan) (pure : has_conversions plan ≡ false) (honest : AreHonest plan owns bases session) (inputs_are : AreInputs plan owns outside.inputs) (joint : IsJoint plan owns table) where
   abbrev n : ℕ
   n = plan.parties
 
@@ -54,20 +44,14 @@ module _ (plan : Gates) (owns : List Own) (bases : Needs) (session : ℕ) (outsi
   abbrev at : ℕ → ℕ → Hand
   at g = hands plan own (wires g) g
 
+  abbrev offset : ℕ → ℕ
+  offset p = (own p).part.offset % 2 ^ 128
+
   abbrev value : ℕ → ℕ → Value
   value g p = party_value plan p (own p) (column table p) g
 
-  abbrev plain : ℕ → List ℕ
-  plain g = plain_before plan.gates outside g
-
   abbrev numbered : ℕ → ℕ
-  numbered g = number_at plan.gates outside (plain g) (slice_get plan.gates g)
-
-  plain_get : (g k : ℕ) → k < g → slice_get (plain g) k ≡ Some (numbered k)
-  plain_get g k less = grown-get plain numbered refl (λ j. refl) g k less
-
-  plain_is : (g k : ℕ) → k < g → slice_index (plain g) k ≡ numbered k
-  plain_is g k less = index_at (plain g) k (numbered k) (plain_get g k less)
+  numbered g = number plan outside g
 
   -- ---- what a kind of gate is shown
 
@@ -86,24 +70,35 @@ module _ (plan : Gates) (owns : List Own) (bases : Needs) (session : ℕ) (outsi
   as_given given g gate is right = subst (λ t. RecombineBy t gate n (value g) (numbered g)) is right
 
   word_operand : (g x : ℕ) → AreRight g → IsOperand plan.gates g (word_use x) →
-      sum_to n (λ p. party.word (at g p) x) % 2 ^ 64 ≡ slice_index (plain g) x % 2 ^ 64
+      sum_to n (λ p. party.word (at g p) x) % 2 ^ 64 ≡ slice_index (plain plan outside g) x % 2 ^ 64
   word_operand g x right (less, gate, found, word) =
       ap (λ s. s % 2 ^ 64) (sum_to_same n (λ p. party.word (at g p) x) (λ p. word_share (value x p)) (λ p h. word_is plan owns table honest.each joint g x p less))
-      ∙ (as_given Word x gate word (right x less gate found) ∙ ap (λ v. v % 2 ^ 64) (sym (plain_is g x less)))
+      ∙ (as_given Word x gate word (right x less gate found) ∙ ap (λ v. v % 2 ^ 64) (sym (plain_is plan outside g x less)))
 
   vector_operand : (g x : ℕ) → AreRight g → IsOperand plan.gates g (vector_use x) →
-      (xor_to n (λ p. party.vector (at g p) x) ≡ slice_index (plain g) x) × ((p : ℕ) → p < n → party.vector (at g p) x < 2 ^ width_at plan.gates x)
+      (xor_to n (λ p. party.vector (at g p) x) ≡ slice_index (plain plan outside g) x) × ((p : ℕ) → p < n → party.vector (at g p) x < 2 ^ width_at plan.gates x)
   vector_operand g x right (less, gate, found, vector) =
       let (is, small) = as_given Vector x gate vector (right x less gate found) in
       let same : (p : ℕ) → party.vector (at g p) x ≡ vector_share (value x p) = λ p. vector_is plan owns table honest.each joint g x p less in (
-        xor_to_same n (λ p. party.vector (at g p) x) (λ p. vector_share (value x p)) (λ p h. same p) ∙ (is ∙ sym (plain_is g x less)),
+        xor_to_same n (λ p. party.vector (at g p) x) (λ p. vector_share (value x p)) (λ p h. same p) ∙ (is ∙ sym (plain_is plan outside g x less)),
         λ p h. subst (λ w. party.vector (at g p) x < 2 ^ w) (sym (wide_is plan x gate found)) (subst (λ s. s < 2 ^ gate.width) (sym (same p)) (small p h)),
       )
 
-  stands : (g : ℕ) (gate : Gate) → AreRight g → slice_get plan.gates g ≡ Some gate → Stand plan gate.kind g outside.inputs (plain g) (at g)
+  wire_operand : (g m o : ℕ) → IsWire plan.gates m o → m < g → o < g → (p : ℕ) → p < n →
+      IsActive n offset (λ q. party.mask (at g q) m) (bit_xor (slice_index (plain plan outside g) o) (slice_index (plain plan outside g) m)) (party.online (at g p) o)
+  wire_operand g m o wire below before p a =
+      subst (λ x. IsActive n offset (λ q. party.mask (at g q) m) x (party.online (at g p) o))
+      (sym (ap₂ bit_xor (plain_is plan outside g o before) (plain_is plan outside g m below)))
+      (seen_wire plan owns bases session outside table valid pure honest inputs_are joint g g m o p (bit_xor (numbered o) (numbered m)) below before
+      (wire_right plan owns bases session outside table valid pure honest inputs_are joint m o wire p a))
+
+  stands : (g : ℕ) (gate : Gate) → AreRight g → slice_get plan.gates g ≡ Some gate → Stand plan gate.kind g outside.inputs (plain plan outside g) (at g)
   stands g gate right found = record {
     words = λ x is. word_operand g x right is;
     vectors = λ x is. vector_operand g x right is;
+    wires = λ m o wire below before p a. wire_operand g m o wire below before p a;
+    masks = λ x is. operand_narrow plan owns table valid pure honest.each joint g (mask_use x) is;
+    onlines = λ x is. operand_narrow plan owns table valid pure honest.each joint g (online_use x) is;
     brought = λ t takes. inputs_are g gate t found takes;
     triples = λ some. triples_multiply plan owns bases session honest (wires g) g (inside_of plan.gates g gate found) some;
     bit_triples = λ needed. bit_triples_multiply plan owns bases session honest (wires g) g (inside_of plan.gates g gate found) needed;
@@ -117,16 +112,16 @@ module _ (plan : Gates) (owns : List Own) (bases : Needs) (session : ℕ) (outsi
   word_case : (g : ℕ) (gate : Gate) → AreRight g → slice_get plan.gates g ≡ Some gate → gives gate.kind ≡ Word → RecombineBy Word gate n (value g) (numbered g)
   word_case g gate right found word =
       ap (λ s. s % 2 ^ 64) (sum_to_same n (λ p. word_share (value g p)) (λ p. word_share (gate_value gate.kind (at g p) (got g p))) (λ p h. ap word_share (value_is g p gate found)))
-      ∙ (word_right plan valid outside (plain g) g own (wires g) (got g) gate.kind gate.width found (heard g gate found) (stands g gate right found) word
-      ∙ sym (ap (λ o. number_at plan.gates outside (plain g) o % 2 ^ 64) found
-      ∙ cut (number_of gate.kind (seen_of plan.gates outside (plain g) gate.kind)) gate.width ((valid.each g gate found).word word)))
+      ∙ (word_right plan valid pure outside (plain plan outside g) g own (wires g) (got g) gate.kind gate.width found (heard g gate found) (stands g gate right found) word
+      ∙ sym (ap (λ o. number_at plan.gates outside (plain plan outside g) o % 2 ^ 64) found
+      ∙ cut (number_of gate.kind (seen_of plan.gates outside (plain plan outside g) gate.kind)) gate.width ((valid.each g gate found).word word)))
 
   vector_case : (g : ℕ) (gate : Gate) → AreRight g → slice_get plan.gates g ≡ Some gate → gives gate.kind ≡ Vector → RecombineBy Vector gate n (value g) (numbered g)
   vector_case g gate right found vector =
-      let (is, small) = vector_right plan valid unkeyed outside (plain g) g own (wires g) (got g) gate.kind gate.width found (heard g gate found) (stands g gate right found) vector in (
+      let (is, small) = vector_right plan valid outside (plain plan outside g) g own (wires g) (got g) gate.kind gate.width found (heard g gate found) (stands g gate right found) vector in (
         xor_to_same n (λ p. vector_share (value g p)) (λ p. vector_share (gate_value gate.kind (at g p) (got g p))) (λ p h. ap vector_share (value_is g p gate found))
-            ∙ (is ∙ (ap (λ w. number_of gate.kind (seen_of plan.gates outside (plain g) gate.kind) % 2 ^ w) (wide_is plan g gate found)
-            ∙ sym (ap (number_at plan.gates outside (plain g)) found))),
+            ∙ (is ∙ (ap (λ w. number_of gate.kind (seen_of plan.gates outside (plain plan outside g) gate.kind) % 2 ^ w) (wide_is plan g gate found)
+            ∙ sym (ap (number_at plan.gates outside (plain plan outside g)) found))),
         λ p h. subst (λ w. vector_share (value g p) < 2 ^ w) (wide_is plan g gate found)
             (subst (λ v. vector_share v < 2 ^ width_at plan.gates g) (sym (value_is g p gate found)) (small p h)),
       )
@@ -136,11 +131,11 @@ module _ (plan : Gates) (owns : List Own) (bases : Needs) (session : ℕ) (outsi
   told_case g (OutA x to) width right found told p a =
       let gate : Gate = record { kind = OutA x to; width = width } in
       value_is g p gate found
-      ∙ told_word plan valid outside (plain g) g own (wires g) (got g) x width p to a found (heard g gate found) (stands g gate right found) (includes to p) refl
+      ∙ told_word plan valid pure outside (plain plan outside g) g own (wires g) (got g) x width p to a found (heard g gate found) (stands g gate right found) (includes to p) refl
   told_case g (OutB x to) width right found told p a =
       let gate : Gate = record { kind = OutB x to; width = width } in
       value_is g p gate found
-      ∙ told_vector plan valid unkeyed outside (plain g) g own (wires g) (got g) x width p to a found (heard g gate found) (stands g gate right found) (includes to p) refl
+      ∙ told_vector plan valid outside (plain plan outside g) g own (wires g) (got g) x width p to a found (heard g gate found) (stands g gate right found) (includes to p) refl
   told_case g _ width right found told p a = cc
 
   step : (g : ℕ) → AreRight g → Right g
@@ -150,14 +145,29 @@ module _ (plan : Gates) (owns : List Own) (bases : Needs) (session : ℕ) (outsi
       by Word is = subst (λ t. RecombineBy t gate n (value g) (numbered g)) (sym is) (word_case g gate right found is)
       by Vector is = subst (λ t. RecombineBy t gate n (value g) (numbered g)) (sym is) (vector_case g gate right found is)
       by spec.Told is = subst (λ t. RecombineBy t gate n (value g) (numbered g)) (sym is) (told_case g gate.kind gate.width right found is)
-      by _ is = let never = ap is_keyed (sym is) ∙ keyed_never gate.kind (unkeyed_at plan g gate unkeyed found) in cc
+      by Mask is = subst (λ t. RecombineBy t gate n (value g) (numbered g)) (sym is) tt
+      by Online is = subst (λ t. RecombineBy t gate n (value g) (numbered g)) (sym is) tt
+      by Table is = subst (λ t. RecombineBy t gate n (value g) (numbered g)) (sym is) tt
 
   whole : (g : ℕ) (here : Gate) (x : ℕ) → slice_get plan.gates g ≡ Some here →
-      slice_get (plain (length plan.gates)) g ≡ Some x → Recombine here n (value g) x
+      slice_get (plain plan outside (length plan.gates)) g ≡ Some x → Recombine here n (value g) x
   whole g here x found there =
-      let is : numbered g ≡ x = some_is (numbered g) x (sym (plain_get (length plan.gates) g (inside_of plan.gates g here found)) ∙ there) in
+      let is : numbered g ≡ x = some_is (numbered g) x (sym (plain_get plan outside (length plan.gates) g (inside_of plan.gates g here found)) ∙ there) in
       subst (λ v. Recombine here n (value g) v) is (strong Right step g here found)
 
 pub every_gate_recombines : EveryGateRecombines
-every_gate_recombines plan owns bases session outside table valid unkeyed honest given joint =
-    whole plan owns bases session outside table valid unkeyed honest given joint
+every_gate_recombines plan owns bases session outside table valid pure honest given joint =
+    whole plan owns bases session outside table valid pure honest given joint
+
+pub every_wire_recombines : EveryWireRecombines
+every_wire_recombines plan owns bases session outside table valid pure honest given joint m o wire p h =
+    let count = length plan.gates in
+    let places = wire_inside plan m o wire in
+    let fit = wire_fits plan owns bases session outside table valid pure honest given joint m o wire in record {
+      zeros = fit.zeros;
+      active = subst (λ x. IsActive plan.parties (offset_of owns) (λ q. mask_part plan.parties (party_value plan q (own_at owns q) (column table q) m)) x
+          (active_part plan.parties (party_value plan p (own_at owns p) (column table p) o)))
+          (sym (ap₂ bit_xor (plain_is plan outside count o places.1) (plain_is plan outside count m places.0)))
+          (wire_right plan owns bases session outside table valid pure honest given joint m o wire p h);
+      shares = fit.shares;
+    }

@@ -27,13 +27,17 @@ module _ (plan : Gates) (owns : List Own) (table : Payloads) (each : length owns
   wires_get : (g k p : ℕ) → k < g → slice_get (wires_before plan p (own p) (column table p) g) k ≡ Some (value k p)
   wires_get g k p less = grown-get (wires_before plan p (own p) (column table p)) (λ j. value j p) refl (λ j. refl) g k less
 
+  -- the value of an earlier gate stands among the party's wires
+  pub wire_is : (g k p : ℕ) → k < g → get_or (wires_before plan p (own p) (column table p) g) k (party.Told None) ≡ value k p
+  wire_is g k p less = got (wires_before plan p (own p) (column table p) g) k (value k p) (party.Told None) (wires_get g k p less)
+
   pub word_is : (g k p : ℕ) → k < g → party.word (at g p) k ≡ word_share (value k p)
   word_is g k p less =
-      ap word_share (got (wires_before plan p (own p) (column table p) g) k (value k p) (party.Told None) (wires_get g k p less))
+      ap word_share (wire_is g k p less)
 
   pub vector_is : (g k p : ℕ) → k < g → party.vector (at g p) k ≡ vector_share (value k p)
   vector_is g k p less =
-      ap vector_share (got (wires_before plan p (own p) (column table p) g) k (value k p) (party.Told None) (wires_get g k p less))
+      ap vector_share (wire_is g k p less)
 
   own_there : (p : ℕ) → p < n → slice_get owns p ≡ Some (own p)
   own_there p small = there_is owns p nobody (subst (λ m. p < m) (sym each) small)

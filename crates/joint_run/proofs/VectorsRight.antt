@@ -3,7 +3,7 @@ use Rattle.std.proofs.Common.{ℕ, ◌≡◌, ◌<◌, ◌≤◌, ◌+◌, ◌*�
 use Rattle.std.specs.Prelude.{slice_get, slice_index, ◌==◌, if◌then◌else◌, nat_eq, ◌/◌, bit_and, bit_xor}
 use Rattle.std.proofs.lemmas.Bool.{eqb-true, eqb-false, eq-eqb}
 use Rattle.std.proofs.Math.Nat.{mod-eq_of_lt, mod-lt}
-use Rattle.std.proofs.lemmas.Nat.{xor_lt, pow_pos}
+use Rattle.std.proofs.lemmas.Nat.{xor_lt, pow_pos, xor_comm}
 use Rattle.share_types.specs.Sums.{part_of_public, xor_to}
 use Rattle.share_types.specs.declared.receiver.Receiver.{Receiver}
 use Rattle.share_types.specs.Wires.{includes}
@@ -11,9 +11,12 @@ use Rattle.share_types.proofs.Parties.{xor_to_same}
 use Rattle.boolean_gmw.specs.Shares.{closed_share}
 use Rattle.boolean_gmw.proofs.Xors.{undone, one_apart as xor_apart, xor_small, opened_xor}
 use Rattle.boolean_gmw.proofs.Recombining.{xor-recombines, flipped-recombines, slice-recombines, join-recombines, and-recombines}
-use Rattle.plan_gates.specs.Gate.{Kind, gives, width_at, InB, ConstB, XorB, XorConstB, SliceB, JoinB, AndB, OutB, Vector, vector as vector_use}
-use Rattle.plan_gates.specs.Plan.{Gates, IsPlan, IsGate, IsOperand, has_keys}
-use Rattle.plan_gates.proofs.KeyLemmas.{unkeyed_at}
+use Rattle.bmr_keys.specs.Mask.{Mask}
+use Rattle.bmr_keys.specs.Wires.{Active}
+use Rattle.share_convert.specs.Convert.{opened_share}
+use Rattle.share_convert.proofs.Opening.{keys-open}
+use Rattle.plan_gates.specs.Gate.{Kind, gives, width_at, InB, ConstB, XorB, XorConstB, SliceB, JoinB, AndB, OutB, YToB, Vector, vector as vector_use}
+use Rattle.plan_gates.specs.Plan.{Gates, IsPlan, IsGate, IsOperand}
 use Rattle.plan_gates.specs.Plain.{Outside, number_at, number_of, seen_of}
 use Rattle.plan_gates.specs.Needs.{needs_at, needs_there}
 use Rattle.joint_run.specs.Party as party
@@ -23,7 +26,7 @@ use Rattle.joint_run.proofs.Standing.{hands, Hear, Stand}
 use Rattle.joint_run.proofs.Sharing.{vector_first, vector_second, choose, short_vector, and_small, join_small, public_xor}
 use Rattle.joint_run.proofs.Run.{wide_is}
 
-module _ (plan : Gates) (valid : IsPlan plan) (unkeyed : has_keys plan ≡ false) (outside : Outside) (plain : List ℕ) (g : ℕ)
+module _ (plan : Gates) (valid : IsPlan plan) (outside : Outside) (plain : List ℕ) (g : ℕ)
     (own : ℕ → Own) (wires : ℕ → List Value) (got : ℕ → Rounds) where
   abbrev n : ℕ
   n = plan.parties
@@ -213,8 +216,19 @@ module _ (plan : Gates) (valid : IsPlan plan) (unkeyed : has_keys plan ≡ false
       let is = is_gate (AndB x y) width found in
       and_right x y width (slice_index plain x) (slice_index plain y) found hears stands
       (fitting x width (AndB x y) found stands is.uses.0 is.fit.0) (fitting y width (AndB x y) found stands is.uses.1.0 is.fit.1.0)
-  vector_right kind width found hears stands vector =
-      let never = unkeyed_at plan g (record { kind = kind; width = width }) unkeyed found in cc
+  vector_right (YToB m o) width found hears stands vector =
+      let is = is_gate (YToB m o) width found in
+      let masks : ℕ → Mask = λ p. party.mask (at p) m in
+      let seen : ℕ → Active = λ p. party.online (at p) o in
+      let here : wide ≡ width = width_is (YToB m o) width found in
+      within (λ p. opened_share p (masks p).mask (seen p).masked) (bit_xor (slice_index plain m) (slice_index plain o))
+      (keys-open n (λ q. party.key_offset (at q)) masks (bit_xor (slice_index plain o) (slice_index plain m)) seen positive
+      (stands.wires m o is.paired is.uses.0.0 is.uses.1.0.0)
+      ∙ xor_comm (slice_index plain o) (slice_index plain m))
+      (λ p h. xor_lt wide (masks p).mask (part_of_public p (seen p).masked)
+      (subst (λ w. (masks p).mask < 2 ^ w) (is.fit.0 ∙ sym here) (stands.masks m is.uses.0 p h))
+      (choose wide (nat_eq p 0) (seen p).masked 0 (subst (λ w. (seen p).masked < 2 ^ w) (is.fit.1.0 ∙ sym here) (stands.onlines o is.uses.1.0 p h)) (pow_pos wide)))
+  vector_right _ width found hears stands vector = cc
 
   -- ---- outputs
 

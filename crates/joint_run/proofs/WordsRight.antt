@@ -10,8 +10,9 @@ use Rattle.share_types.proofs.Parties.{sum_to_same}
 use Rattle.arithmetic_gmw.specs.Shares.{closed_share}
 use Rattle.arithmetic_gmw.proofs.Recombining.{sum-recombines, difference-recombines, scaled-recombines, raised-recombines, product-recombines}
 use Rattle.arithmetic_gmw.proofs.Sums.{sum_mod, one_apart, opened_sum}
-use Rattle.plan_gates.specs.Gate.{Kind, Word, gives, width_at, InA, ConstA, AddA, SubA, AddConstA, MulConstA, MulA, OutA, word as word_use}
-use Rattle.plan_gates.specs.Plan.{Gates, IsPlan, IsGate, IsOperand}
+use Rattle.plan_gates.specs.Gate.{Kind, Word, gives, width_at, InA, ConstA, AddA, SubA, AddConstA, MulConstA, MulA, OutA, word as word_use, BToA}
+use Rattle.plan_gates.specs.Plan.{Gates, IsPlan, IsGate, IsOperand, has_conversions}
+use Rattle.plan_gates.proofs.KeyLemmas.{unconverted_at}
 use Rattle.plan_gates.specs.Plain.{Outside, number_at, number_of, seen_of}
 use Rattle.plan_gates.specs.Needs.{needs_at, needs_there}
 use Rattle.joint_run.specs.Party as party
@@ -21,7 +22,7 @@ use Rattle.joint_run.proofs.Standing.{hands, Hear, Stand}
 use Rattle.joint_run.proofs.Sharing.{word_first, word_second, back, public}
 use Rattle.joint_run.proofs.Run.{wide_is}
 
-module _ (plan : Gates) (valid : IsPlan plan) (outside : Outside) (plain : List ℕ) (g : ℕ)
+module _ (plan : Gates) (valid : IsPlan plan) (pure : has_conversions plan ≡ false) (outside : Outside) (plain : List ℕ) (g : ℕ)
     (own : ℕ → Own) (wires : ℕ → List Value) (got : ℕ → Rounds) where
   abbrev n : ℕ
   n = plan.parties
@@ -131,6 +132,8 @@ module _ (plan : Gates) (valid : IsPlan plan) (outside : Outside) (plain : List 
           scaled-recombines n (λ p. party.word (at p) x) (slice_index plain x) c (stands.words x is.uses.0)
       by (MulA x y) found hears stands word is =
           product_right x y width (slice_index plain x) (slice_index plain y) found hears stands (stands.words x is.uses.0) (stands.words y is.uses.1.0)
+      by (BToA x) found hears stands word is =
+          let no = unconverted_at plan g (record { kind = BToA x; width = width }) pure found in absurd (cc)
       by _ found hears stands word is = cc
 
   -- ---- outputs

@@ -5,7 +5,7 @@ use Rattle.share_types.specs.Bits.{number}
 use Rattle.share_types.specs.Sums.{sum_to, xor_to}
 use Rattle.dealer_files.specs.Part.{Part}
 use Rattle.dealer_files.specs.Honest.{HonestTogether}
-use Rattle.plan_gates.specs.Gate.{Kind, Gate, Given, Word, Vector, InA, InB, gives}
+use Rattle.plan_gates.specs.Gate.{Kind, Gate, Given, Word, Vector, InA, InB, InOnline, gives}
 use Rattle.plan_gates.specs.Gate as plan
 use Rattle.plan_gates.specs.Plan.{Gates}
 use Rattle.plan_gates.specs.Needs.{all_needs}
@@ -35,6 +35,7 @@ pub record AreHonest (plan : Gates) (owns : List Own) (bases : Needs) (session :
   pub honest : HonestTogether (map (λ own. own.part) owns) plan.parties id counts
   pub enough_mult : (sum_of_needs bases (all_needs plan)).mult ≤ counts.mult
   pub enough_bits : (sum_of_needs bases (all_needs plan)).bit ≤ counts.bit
+  pub enough_keys : (sum_of_needs bases (all_needs plan)).key ≤ counts.key
 
 -- the party and the number of the input that a gate takes
 pub record Taken : Type 0 where
@@ -44,7 +45,12 @@ pub record Taken : Type 0 where
 abbrev pub taken_by : Kind → Option Taken
 taken_by (InA party k) = Some (record { party = party; k = k })
 taken_by (InB party k at) = Some (record { party = party; k = k })
+taken_by (InOnline party k at m) = Some (record { party = party; k = k })
 taken_by _ = None
+
+-- the parties' offsets, as keys of 128 bits
+abbrev pub offset_of : List Own → ℕ → ℕ
+offset_of owns p = (own_at owns p).part.offset % 2 ^ 128
 
 -- the numbers of the inputs that a plan takes, each from its owner
 abbrev pub AreInputs : Gates → List Own → List ℕ → Type 0
@@ -53,14 +59,15 @@ AreInputs plan owns inputs =
     slice_index inputs t.k ≡ number (get_or (own_at owns t.party).inputs t.k [])
 
 -- the values of a gate of so many parties recombine to a number: shares of a word sum to it modulo 2^64, shares of a
--- vector of the gate's width XOR to it, and who is told knows it. What gates of keys give does not recombine yet
+-- vector of the gate's width XOR to it, and who is told knows it. A mask and masked bits have no number of their own: they
+-- recombine together, as a wire
 abbrev pub RecombineBy : Given → Gate → ℕ → (ℕ → Value) → ℕ → Type 0
 RecombineBy Word gate n values x = sum_to n (λ p. word_share (values p)) % 2 ^ 64 ≡ x % 2 ^ 64
 RecombineBy Vector gate n values x =
     (xor_to n (λ p. vector_share (values p)) ≡ x) × ((p : ℕ) → p < n → vector_share (values p) < 2 ^ gate.width)
 RecombineBy plan.Told gate n values x =
     (p : ℕ) → p < n → values p ≡ Told (if tells p gate then Some x else None)
-RecombineBy _ gate n values x = ⊥
+RecombineBy _ gate n values x = Unit {0}
 
 abbrev pub Recombine : Gate → ℕ → (ℕ → Value) → ℕ → Type 0
 Recombine gate n values x = RecombineBy (gives gate.kind) gate n values x

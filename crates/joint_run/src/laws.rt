@@ -1,4 +1,4 @@
-ghost use Rattle.joint_run.specs.Laws.{APartyFollows, EveryGateRecombines, OneJointRun, PayloadsHaveTheirLengths, PayloadsHaveTheirShapes, PayloadsReadBack};
+ghost use Rattle.joint_run.specs.Laws.{APartyFollows, EveryGateRecombines, EveryWireRecombines, OneJointRun, PayloadsHaveTheirLengths, PayloadsHaveTheirShapes, PayloadsReadBack};
 ghost use Rattle.joint_run.specs.Uses.{UsesNeverMeet};
 
 /// What is read at each place of a payload is what was written there.
@@ -27,6 +27,13 @@ pub fn payloads_have_their_shapes()
 /// computes there in plain.
 pub fn every_gate_recombines()
     ensures { EveryGateRecombines }
+{}
+
+/// And each wire that is shared as keys recombines, at each party, to the number that the plan computes of it in plain: its
+/// zero keys are even, the masked bits and the active keys are those of the number, and the shares of mask times offsets
+/// are those of the mask.
+pub fn every_wire_recombines()
+    ensures { EveryWireRecombines }
 {}
 
 /// A party that was sent what a joint run sends it, and nothing else, has the run's values and sends the run's payloads.

@@ -1,6 +1,7 @@
 -- Each gate of a plan that takes an input takes it from the input's party, within the input's width.
 use Rattle.std.proofs.Common.{◌≡◌, ℕ, zero, suc, ◌+◌, ◌-◌, ◌*◌, ◌%◌, ◌<◌, Bool, true, false, cond, List, [], ◌∷◌, ◌++◌, length, take, Option, Some, None, refl, sym, ap, ◌∙◌, subst, arith}
 use Rattle.std.specs.Prelude.{slice_get, slice_index, sum, IsSome}
+use Rattle.std.specs.List.{AllByRecursion}
 use Rattle.std.specs.Option.{unwrap_or}
 use Rattle.std.proofs.lemmas.List.{length-append}
 use Rattle.share_types.specs.declared.sharing.Sharing.{Sharing}
@@ -23,12 +24,17 @@ use Rattle.bristol_reader.specs.Table as bristol_table
 use Rattle.bristol_reader.specs.declared.kind.BristolKind.{BristolKind}
 use Rattle.bristol_reader.specs.declared.kind.BristolKind.TheVariants as kind
 use Rattle.plan_gates.specs.Gate as plan
-use Rattle.plan_gates.specs.Gate.{Gate, InA, InB, gate_of}
+use Rattle.plan_gates.specs.Gate.{Gate, InA, InB, KeyMask, InOnline, gate_of}
 use Rattle.gate_plan.specs.declared.wire.Wire.{Wire}
 use Rattle.gate_plan.specs.Blocks.{Lowered, wire_among, entered, anded, told, in_row}
+use Rattle.gate_plan.specs.declared.convert.Parts.{Parts}
+use Rattle.gate_plan.specs.declared.convert.Parts.TheVariants.{Word, Vector}
+use Rattle.gate_plan.specs.declared.adder.Sums.{Sums}
+use Rattle.gate_plan.specs.Adder.{pair_at, first_bit, next_bit, last_bit, bit_at, sums_at, bit_behind, adder}
+use Rattle.gate_plan.specs.Convert.{entry_gates, entries, joiner_of, joined_wire, joint_gates, from_parts}
 use Rattle.gate_plan.specs.Lowering.{Source, block_of, block_at, source_of, is_keys, wire_handled, width_handled, lowered_to}
 use Rattle.gate_plan.specs.Bristol.{gates_of_end, gates_of_and, value_gates, input_gates, kind_gates, gates_made, wired_before, output_gates}
-use Rattle.gate_plan.proofs.BuiltLemmas.{handled_own}
+use Rattle.gate_plan.proofs.HandledLemmas.{handled_own}
 use Rattle.joint_run.specs.Honest.{Taken, taken_by}
 use Rattle.gate_tasks.specs.Stage.{taken_from}
 use Rattle.local_run.specs.Inputs.{TakesFrom}
@@ -79,44 +85,104 @@ take_three : (inputs : List Input) (g h i : Gate) → taken_by g.kind ≡ None �
 take_three inputs g h i one two three =
     take_both inputs (g ∷ []) (h ∷ i ∷ []) (take_silent inputs g one) (take_two inputs h i two three)
 
-taking : (inputs : List Input) (op : Operation) (keys : Bool) (v : Source) (n : ℕ) →
-    ((gate : Gate) (t : Taken) → IsTaking op v gate t → TakesFrom inputs gate t) → TakeOf inputs (block_of op keys v n).gates
-taking inputs InputWord keys v n own =
+take_row : (inputs : List Input) (count : ℕ) (f : ℕ → List Gate) →
+    ((i : ℕ) → i < count → TakeOf inputs (f i)) → TakeOf inputs (in_row count f)
+take_row inputs zero f own = λ g gate t there e. cc
+take_row inputs (suc n) f own =
+    take_both inputs (in_row n f) (f n) (take_row inputs n f (λ i h. own i (omega (arith, h)))) (own n (omega arith))
+
+-- gates of which none takes an input
+abbrev AreSilent : List Gate → Type 0
+AreSilent gates = AllByRecursion (λ gate. taken_by gate.kind ≡ None) gates
+
+take_none : (inputs : List Input) (gates : List Gate) → AreSilent gates → TakeOf inputs gates
+take_none inputs [] silent = λ g gate t there e. cc
+take_none inputs (gate ∷ gates) silent =
+    take_both inputs (gate ∷ []) gates (take_silent inputs gate silent.0) (take_none inputs gates silent.1)
+
+-- the adder, and values that are entered in parts
+first_takes : (inputs : List Input) (n : ℕ) (a b : Wire) → TakeOf inputs (first_bit n a b)
+first_takes inputs n a b = take_none inputs (first_bit n a b) (refl, (refl, (refl, (refl, (refl, (refl, (refl, (refl, (refl, tt)))))))))
+
+next_takes : (inputs : List Input) (n bit : ℕ) (a b : Wire) (t : Sums) → TakeOf inputs (next_bit n bit a b t)
+next_takes inputs n bit a b t =
+    take_none inputs (next_bit n bit a b t)
+    (refl, (refl, (refl, (refl, (refl, (refl, (refl, (refl, (refl, (refl, (refl, (refl, (refl, (refl, (refl, (refl, (refl, tt)))))))))))))))))
+
+last_takes : (inputs : List Input) (n bit : ℕ) (a b : Wire) (t : Sums) → TakeOf inputs (last_bit n bit a b t)
+last_takes inputs n bit a b t =
+    take_none inputs (last_bit n bit a b t) (refl, (refl, (refl, (refl, (refl, (refl, (refl, (refl, (refl, (refl, tt))))))))))
+
+adder_takes : (inputs : List Input) (n i : ℕ) (a b : Wire) → TakeOf inputs (adder n i a b)
+unfolding adder
+adder_takes inputs n i a b =
+    take_both inputs (first_bit n a b) (in_row i (bit_behind n a b) ++ last_bit (bit_at n i) (i + 1) a b (sums_at n i)) (first_takes inputs n a b)
+    (take_both inputs (in_row i (bit_behind n a b)) (last_bit (bit_at n i) (i + 1) a b (sums_at n i))
+    (take_row inputs i (bit_behind n a b) (λ j h. next_takes inputs (bit_at n j) (j + 1) a b (sums_at n j)))
+    (last_takes inputs (bit_at n i) (i + 1) a b (sums_at n i)))
+
+entry_takes : (inputs : List Input) (parts : Parts) (n party : ℕ) → TakeOf inputs (entry_gates parts n party)
+entry_takes inputs (Word x) n party = take_two inputs _ _ refl refl
+entry_takes inputs (Vector x width) n party = take_two inputs _ _ refl refl
+
+joint_takes : (inputs : List Input) (parts : Parts) (n m k : ℕ) → TakeOf inputs (joint_gates (joiner_of parts) n m k)
+joint_takes inputs (Word x) n m k =
+    adder_takes inputs (m + 1073 * k) 62 (joined_wire (joiner_of (Word x)) n m k) (pair_at (n + 2 * (k + 1)))
+joint_takes inputs (Vector x width) n m k = take_two inputs _ _ refl refl
+
+parts_take : (inputs : List Input) (parts : Parts) (parties n : ℕ) → TakeOf inputs (from_parts parts parties n).gates
+parts_take inputs parts parties n =
+    take_both inputs (entries parts n parties) (in_row (parties - 1) (joint_gates (joiner_of parts) n (n + 2 * parties)))
+    (take_row inputs parties (λ party. entry_gates parts (n + 2 * party) party) (λ i h. entry_takes inputs parts (n + 2 * i) i))
+    (take_row inputs (parties - 1) (joint_gates (joiner_of parts) n (n + 2 * parties)) (λ i h. joint_takes inputs parts n (n + 2 * parties) i))
+
+taking : (inputs : List Input) (parties : ℕ) (op : Operation) (keys : Bool) (v : Source) (n : ℕ) →
+    ((gate : Gate) (t : Taken) → IsTaking op v gate t → TakesFrom inputs gate t) → TakeOf inputs (block_of parties op keys v n).gates
+taking inputs parties InputWord keys v n own =
     take_one inputs (gate_of (InA v.party v.k) v.width) (λ t e. own (gate_of (InA v.party v.k) v.width) t
     (let taken = same_some _ t e in
     record { owner = refl; party = sym (ap (λ (u : Taken). u.party) taken); k = sym (ap (λ (u : Taken). u.k) taken); from = refl; width = refl }))
-taking inputs InputBits false v n own =
+taking inputs parties InputBits false v n own =
     take_one inputs (gate_of (InB v.party v.k 0) v.width) (λ t e. own (gate_of (InB v.party v.k 0) v.width) t
     (let taken = same_some _ t e in
     record { owner = refl; party = sym (ap (λ (u : Taken). u.party) taken); k = sym (ap (λ (u : Taken). u.k) taken); from = refl; width = refl }))
-taking inputs Output false v n own =
+taking inputs parties Output false v n own =
     take_silent inputs (gate_of (cond v.is_word (plan.OutA v.x.gate v.to) (plan.OutB v.x.gate v.to)) v.width) (either v.is_word)
   where
     either : (b : Bool) → taken_by (cond b (plan.OutA v.x.gate v.to) (plan.OutB v.x.gate v.to)) ≡ None
     either true = refl
     either false = refl
-taking inputs ConstWord keys v n own = take_silent inputs _ refl
-taking inputs ConstBits false v n own = take_silent inputs _ refl
-taking inputs InputBits true v n own = take_two inputs _ _ refl refl
-taking inputs ConstBits true v n own = take_two inputs _ _ refl refl
-taking inputs Xor true v n own = take_two inputs _ _ refl refl
-taking inputs And true v n own = take_three inputs _ _ _ refl refl refl
-taking inputs Not true v n own = take_silent inputs _ refl
-taking inputs Slice true v n own = take_two inputs _ _ refl refl
-taking inputs Join true v n own = take_two inputs _ _ refl refl
-taking inputs Y2B keys v n own = take_silent inputs _ refl
-taking inputs Output true v n own = take_two inputs _ _ refl refl
-taking inputs Add keys v n own = take_silent inputs _ refl
-taking inputs Sub keys v n own = take_silent inputs _ refl
-taking inputs Mul keys v n own = take_silent inputs _ refl
-taking inputs AddConst keys v n own = take_silent inputs _ refl
-taking inputs MulConst keys v n own = take_silent inputs _ refl
-taking inputs Xor false v n own = take_silent inputs _ refl
-taking inputs And false v n own = take_silent inputs _ refl
-taking inputs Not false v n own = take_silent inputs _ refl
-taking inputs Slice false v n own = take_silent inputs _ refl
-taking inputs Join false v n own = take_silent inputs _ refl
-taking inputs _ keys v n own = λ g gate t there e. cc
+taking inputs parties ConstWord keys v n own = take_silent inputs _ refl
+taking inputs parties ConstBits false v n own = take_silent inputs _ refl
+taking inputs parties InputBits true v n own =
+    take_both inputs (gate_of KeyMask v.width ∷ []) (gate_of (InOnline v.party v.k 0 n) v.width ∷ []) (take_silent inputs _ refl)
+    (take_one inputs (gate_of (InOnline v.party v.k 0 n) v.width) (λ t e. own (gate_of (InOnline v.party v.k 0 n) v.width) t
+    (let taken = same_some _ t e in
+    record { owner = refl; party = sym (ap (λ (u : Taken). u.party) taken); k = sym (ap (λ (u : Taken). u.k) taken); from = refl; width = refl })))
+taking inputs parties ConstBits true v n own = take_two inputs _ _ refl refl
+taking inputs parties Xor true v n own = take_two inputs _ _ refl refl
+taking inputs parties And true v n own = take_three inputs _ _ _ refl refl refl
+taking inputs parties Not true v n own = take_silent inputs _ refl
+taking inputs parties Slice true v n own = take_two inputs _ _ refl refl
+taking inputs parties Join true v n own = take_two inputs _ _ refl refl
+taking inputs parties Y2B keys v n own = take_silent inputs _ refl
+taking inputs parties Output true v n own = take_two inputs _ _ refl refl
+taking inputs parties Add keys v n own = take_silent inputs _ refl
+taking inputs parties Sub keys v n own = take_silent inputs _ refl
+taking inputs parties Mul keys v n own = take_silent inputs _ refl
+taking inputs parties AddConst keys v n own = take_silent inputs _ refl
+taking inputs parties MulConst keys v n own = take_silent inputs _ refl
+taking inputs parties Xor false v n own = take_silent inputs _ refl
+taking inputs parties And false v n own = take_silent inputs _ refl
+taking inputs parties Not false v n own = take_silent inputs _ refl
+taking inputs parties Slice false v n own = take_silent inputs _ refl
+taking inputs parties Join false v n own = take_silent inputs _ refl
+taking inputs parties A2Y keys v n own = parts_take inputs (Word v.x.gate) parties n
+taking inputs parties A2B keys v n own =
+    take_both inputs (from_parts (Word v.x.gate) parties n).gates (_ ∷ []) (parts_take inputs (Word v.x.gate) parties n) (take_silent inputs _ refl)
+taking inputs parties B2Y keys v n own = parts_take inputs (Vector v.x.gate v.width) parties n
+taking inputs parties B2A keys v n own = take_silent inputs _ refl
+taking inputs parties Y2A keys v n own = take_two inputs _ _ refl refl
 
 -- an input has a name, and its value is as wide as its line states
 record IsInput (op : Operation) (given : Sharing) (width stated : ℕ) : Type 0 where
@@ -211,26 +277,25 @@ module _ (c : Circuit) (circuit : IsCircuit c) where
       by None there = λ g gate t there e. cc
       by (Some s) there =
           let wires = (lowered_to c n).wires in
-          taking (inputs_of all) s.shape.operation (is_keys (wire_handled all s)) (source_of c n wires s) (length (lowered_to c n).gates)
+          taking (inputs_of all) c.parties s.shape.operation (is_keys (wire_handled all s)) (source_of c n wires s) (length (lowered_to c n).gates)
           (take_here n s wires there)
 
 pub mixed_plans_take_inputs : MixedPlansTakeInputs
-mixed_plans_take_inputs c circuit built = take_before c circuit (length c.statements)
+mixed_plans_take_inputs c circuit = take_before c circuit (length c.statements)
 
 -- ---- circuits in Bristol Fashion
 
-take_row : (inputs : List Input) (count : ℕ) (f : ℕ → List Gate) →
-    ((i : ℕ) → i < count → TakeOf inputs (f i)) → TakeOf inputs (in_row count f)
-take_row inputs zero f own = λ g gate t there e. cc
-take_row inputs (suc n) f own =
-    take_both inputs (in_row n f) (f n) (take_row inputs n f (λ i h. own i (omega (arith, h)))) (own n (omega arith))
-
 -- a bit of an input value
 take_bit : (inputs : List Input) (keys : Bool) (n party k at : ℕ) →
-    ((t : Taken) → taken_by (InB party k at) ≡ Some t → TakesFrom inputs (gate_of (InB party k at) 1) t) →
+    TakesFrom inputs (gate_of (InB party k at) 1) (record { party = party; k = k }) →
     TakeOf inputs (entered keys n 1 party k at).gates
-take_bit inputs false n party k at own = take_one inputs (gate_of (InB party k at) 1) own
-take_bit inputs true n party k at own = take_two inputs _ _ refl refl
+take_bit inputs false n party k at own =
+    take_one inputs (gate_of (InB party k at) 1) (λ t e. subst (λ (u : Taken). TakesFrom inputs (gate_of (InB party k at) 1) u) (same_some _ t e) own)
+take_bit inputs true n party k at own =
+    take_both inputs (gate_of KeyMask 1 ∷ []) (gate_of (InOnline party k at n) 1 ∷ []) (take_silent inputs _ refl)
+    (take_one inputs (gate_of (InOnline party k at n) 1) (λ t e.
+    subst (λ (u : Taken). TakesFrom inputs (gate_of (InOnline party k at n) 1) u) (same_some _ t e)
+    (record { input = own.input; there = own.there; party = own.party; within = own.within })))
 
 take_inputs : (inputs : List Input) (keys : Bool) (parties n k : ℕ) (widths : List ℕ) →
     ((i : ℕ) (x : Input) → slice_get (bristol_table.inputs_from parties k widths) i ≡ Some x →
@@ -245,16 +310,14 @@ take_inputs inputs keys parties n k (w ∷ ws) at =
     let place : k + suc i ≡ k + 1 + i = omega arith in
     subst (λ (n : ℕ). slice_get inputs n ≡ Some x) place (at (suc i) x there)))
   where
-    own : (i : ℕ) → i < w → (t : Taken) → taken_by (InB (k % parties) k i) ≡ Some t →
-        TakesFrom inputs (gate_of (InB (k % parties) k i) 1) t
-    own i h t e =
+    own : (i : ℕ) → i < w → TakesFrom inputs (gate_of (InB (k % parties) k i) 1) (record { party = k % parties; k = k })
+    own i h =
         let entry : Input =
         record { name = bristol_table.input_name k; party = record { 0 = k % parties }; width = w } in
         let place : k + 0 ≡ k = omega arith in
         let found : slice_get inputs k ≡ Some entry =
         subst (λ (n : ℕ). slice_get inputs n ≡ Some entry) place (at 0 entry refl) in
-        subst (λ (u : Taken). TakesFrom inputs (gate_of (InB (k % parties) k i) 1) u) (same_some _ t e)
-        (record { input = entry; there = found; party = refl; within = omega (arith, h) })
+        record { input = entry; there = found; party = refl; within = omega (arith, h) }
 
 take_and : (inputs : List Input) (keys : Bool) (n : ℕ) (a b : Wire) → TakeOf inputs (anded keys n 1 a b).gates
 take_and inputs false n a b = take_silent inputs _ refl

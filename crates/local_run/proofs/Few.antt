@@ -1,7 +1,7 @@
 -- A gate has three operands at most, and two where it is none of keys.
 use Rattle.std.proofs.Common.{ℕ, ◌≡◌, ◌≤◌, false, List, length, Option, Some, None, refl, arith}
 use Rattle.std.specs.Prelude.{slice_get, option_map}
-use Rattle.plan_gates.specs.Gate.{Kind, Gate, AddA, SubA, MulA, XorB, JoinB, AndB, XorMask, JoinMask, XorOnline, JoinOnline, Garble, EvalY, YToB, is_of_keys, operands}
+use Rattle.plan_gates.specs.Gate.{Kind, Gate, AddA, SubA, MulA, XorB, JoinB, AndB, XorMask, JoinMask, XorOnline, JoinOnline, Garble, EvalY, YToB, is_of_keys, operands, ShareAOnline, ShareBOnline}
 use Rattle.plan_gates.specs.Plan.{Gates, has_keys}
 use Rattle.plan_gates.proofs.KeyLemmas.{unkeyed_at}
 use Rattle.gate_tasks.specs.Stage.{operands_of, kind_at, AreOperands}
@@ -21,6 +21,8 @@ few (JoinOnline u v) = omega arith
 few (Garble u v m) = omega arith
 few (EvalY t u v) = omega arith
 few (YToB m o) = omega arith
+few (ShareAOnline party x m) = omega arith
+few (ShareBOnline party x m) = omega arith
 few _ = omega arith
 
 pub few_of : (k : Option Kind) → length (operands_of k) ≤ 3
@@ -41,6 +43,8 @@ two (JoinMask u v) e = cc
 two (XorOnline u v) e = cc
 two (JoinOnline u v) e = cc
 two (YToB m o) e = cc
+two (ShareAOnline party x m) e = cc
+two (ShareBOnline party x m) e = cc
 two _ e = omega arith
 
 two_at : (plan : Gates) (g : ℕ) → has_keys plan ≡ false → length (operands_of (kind_at plan.gates g)) ≤ 2

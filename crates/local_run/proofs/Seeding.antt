@@ -15,7 +15,7 @@ use Rattle.circuit_tables.specs.Table.{Input}
 use Rattle.circuit_tables.specs.Values.{HaveWidths, kept_of}
 use Rattle.mot_base.proofs.Lists.{same_some, take_next}
 use Rattle.dealer_files.specs.Part.{Part, counts_of}
-use Rattle.plan_gates.specs.Gate.{Kind, Gate, InA, InB, party_of}
+use Rattle.plan_gates.specs.Gate.{Kind, Gate, InA, InB, InOnline, party_of}
 use Rattle.plan_gates.specs.Plan.{Gates, IsPlan, has_keys}
 use Rattle.plan_gates.specs.Needs.{all_needs}
 use Rattle.plan_gates.proofs.NeedsLemmas.{slice_get-each}
@@ -72,6 +72,8 @@ taken_small : (kind : Kind) (t : Taken) (n : ℕ) → taken_by kind ≡ Some t �
 taken_small (InA party k) t n e small =
     subst (λ (q : ℕ). q < n) (ap (λ (u : Taken). u.party) (same_some _ t e)) small
 taken_small (InB party k at) t n e small =
+    subst (λ (q : ℕ). q < n) (ap (λ (u : Taken). u.party) (same_some _ t e)) small
+taken_small (InOnline party k at m) t n e small =
     subst (λ (q : ℕ). q < n) (ap (λ (u : Taken). u.party) (same_some _ t e)) small
 taken_small _ t n e small = cc
 
@@ -189,7 +191,7 @@ jobs_of_seed_serve plan seed inputs values parts valid unkeyed takes widths serv
 )
 
 pub jobs_of_seed_are_honest : JobsOfSeedAreHonest
-jobs_of_seed_are_honest plan seed inputs values parts id counts honest mult bit =
+jobs_of_seed_are_honest plan seed inputs values parts id counts honest mult bit key =
     let all = owns_with (owns_of seed plan.parties inputs values) parts in
     let many = honest.count in
     let size = count plan seed inputs values parts many in
@@ -203,4 +205,5 @@ jobs_of_seed_are_honest plan seed inputs values parts id counts honest mult bit 
       honest = rw same honest;
       enough_mult = omega (arith, mult);
       enough_bits = omega (arith, bit);
+      enough_keys = omega (arith, key);
     }

@@ -3,7 +3,7 @@
 
 ghost use Rattle.std.specs.Prelude.{◌≡◌, ◌≢◌};
 
-use mot_base::{HostFiles, HostSink};
+use mot_base::{HostFiles, HostSink, OpenGate};
 use motion_cli::motion;
 use std::alloc::{Alloc, Global};
 use std::env::{self, Env, FillError};
@@ -17,7 +17,15 @@ fn main(rt: HostRuntime) -> ExitCode {
     };
     let mut files = HostFiles::new(&rt);
     let mut out = HostSink::new(&rt);
-    ExitCode::from(motion(rt.alloc(), words.as_slice(), &mut files, &mut out))
+    let status = motion(
+        &rt,
+        rt.alloc(),
+        words.as_slice(),
+        &mut files,
+        &mut out,
+        &OpenGate,
+    );
+    ExitCode::from(status)
 }
 
 /// The words after the program's name.

@@ -10,14 +10,14 @@ use Rattle.cli_words.specs.declared.read.WordsError.{WordsError}
 use Rattle.cli_words.specs.declared.read.WordsError.TheVariants.{Usage}
 use Rattle.cli_words.specs.declared.table.Offer.{Offer}
 use Rattle.text_lines.specs.Text.{Text}
-use Rattle.motion_cli.specs.Coming.{ReadCame}
+use Rattle.command_ends.specs.Coming.{ReadCame}
 use Rattle.motion_cli.specs.Commands.{RequestEnds, request_files}
-use Rattle.motion_cli.specs.Ending.{Outside, IsWritten}
-use Rattle.motion_cli.specs.Outcome.{Outcome}
-use Rattle.motion_cli.specs.Settled.{EndsWell}
+use Rattle.command_ends.specs.Ending.{Outside, IsWritten}
+use Rattle.command_ends.specs.Outcome.{Outcome}
+use Rattle.command_ends.specs.Settled.{EndsWell}
 use Rattle.motion_cli.specs.Words.{AreRun, AsksFor}
-use Rattle.motion_cli.proofs.AnswerLemmas.{ends_well}
-use Rattle.motion_cli.proofs.ProgramLemmas.{ended_with}
+use Rattle.command_ends.proofs.AnswerLemmas.{ends_well}
+use Rattle.command_ends.proofs.ProgramLemmas.{ended_with}
 use Rattle.motion_cli.proofs.SettledLemmas.{request_settled}
 use Rattle.motion_cli.proofs.WordsLemmas.{none_asked}
 

@@ -15,14 +15,13 @@ use Rattle.dealer_files.specs.Checks.{checked, first_of, magic_fault, version_fa
 use Rattle.dealer_files.proofs.Parted.{one-part}
 use Rattle.dealer_files.proofs.Whole.{no-fault}
 use Rattle.text_lines.specs.Text.{Text}
-use Rattle.motion_cli.specs.declared.dealer.PartFault.{PartFault}
-use Rattle.motion_cli.specs.declared.dealer.PartFault.TheVariants.{Unread, Differs}
+use Rattle.command_ends.specs.declared.fault.PartFault.{PartFault}
+use Rattle.command_ends.specs.declared.fault.PartFault.TheVariants.{Unread, Differs}
 use Rattle.motion_cli.specs.Dealer.{difference, Holds, AreRead, Shows, IsFaulty, IsDealerFault}
-use Rattle.motion_cli.specs.Outcome.{Outcome, memory}
-use Rattle.motion_cli.specs.Parts.{part_name}
-use Rattle.motion_cli.specs.Refusal.{dealer_refused}
-use Rattle.motion_cli.specs.Steps.{IsContent, IsUnloaded, AreContents, IsFirstUnloaded}
-use Rattle.motion_cli.proofs.PartsLemmas.{rose_since}
+use Rattle.command_ends.specs.Outcome.{Outcome, memory, part_name}
+use Rattle.command_ends.proofs.StoreLemmas.{rose_since}
+use Rattle.command_ends.specs.Refusal.{dealer_refused}
+use Rattle.command_ends.specs.Steps.{IsContent, IsUnloaded, AreContents, IsFirstUnloaded}
 
 -- ---- lists by their places
 

@@ -1,14 +1,8 @@
-pub mod EndLemmas
 pub mod ReportLemmas
-pub mod ProgramLemmas
-pub mod StepLemmas
 pub mod DealerLemmas
 pub mod LocalLemmas
-pub mod TellingLemmas
 pub mod TakenLemmas
 pub mod SettledLemmas
-pub mod AnswerLemmas
 pub mod WordsLemmas
 pub mod PartsLemmas
-pub mod CircuitLemmas
 pub mod CallLemmas

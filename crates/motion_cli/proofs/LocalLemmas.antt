@@ -21,20 +21,19 @@ use Rattle.joint_run.proofs.Unique.{one_joint_run}
 use Rattle.gate_tasks.specs.declared.report.PartyReport.{PartyReport}
 use Rattle.local_run.specs.Report.{AreReports, IsReport}
 use Rattle.text_lines.specs.Text.{Text}
-use Rattle.motion_cli.specs.declared.dealer.PartFault.{PartFault}
-use Rattle.motion_cli.specs.declared.status.Status.TheVariants as status
-use Rattle.motion_cli.specs.declared.status.Status.TheVariants.{Usage, Done, Write}
-use Rattle.motion_cli.specs.Circuits.{Circuit, Reads, parties_of, plan_of, outputs_of, notation_of}
+use Rattle.command_ends.specs.declared.fault.PartFault.{PartFault}
+use Rattle.command_ends.specs.declared.status.Status.TheVariants as status
+use Rattle.command_ends.specs.declared.status.Status.TheVariants.{Usage, Done, Write}
+use Rattle.any_circuit.specs.Circuits.{Circuit, Reads, parties_of, plan_of, outputs_of, notation_of}
 use Rattle.motion_cli.specs.Commands.{ReportsRun, LocalReads, LocalTexts, LocalEnds}
 use Rattle.motion_cli.specs.Dealer.{part_names, AreRead, AreEnough, AreTaken, IsUntaken, IsShort, TakesParts, shortage, stock_of}
-use Rattle.motion_cli.specs.Outcome.{Outcome, reported, memory}
-use Rattle.motion_cli.specs.Parts.{part_name}
-use Rattle.motion_cli.specs.Refusal.{dealer_refused, few_refused}
+use Rattle.command_ends.specs.Outcome.{Outcome, reported, memory, part_name}
+use Rattle.command_ends.specs.Refusal.{dealer_refused, few_refused}
 use Rattle.motion_cli.specs.Report.{PartyRun, runs_report}
 use Rattle.motion_cli.specs.Run.{AreRuns, AreRunsOf, IsRunOf}
-use Rattle.motion_cli.specs.Steps.{IsContent, IsUnloaded, AreContents, IsFirstUnloaded, LoadsAll}
+use Rattle.command_ends.specs.Steps.{IsContent, IsUnloaded, AreContents, IsFirstUnloaded, LoadsAll, AreUnloaded}
 use Rattle.motion_cli.proofs.DealerLemmas.{take_there, one_item, same_list, which_first, one_reading, not_faulty, one_faulty}
-use Rattle.motion_cli.proofs.StepLemmas.{Agree, Fair, Refuses, carried, file_refuses, content_once, unloaded_once, not_loaded}
+use Rattle.command_ends.proofs.StepLemmas.{Agree, Fair, Refuses, carried, file_refuses, content_once, unloaded_once, not_loaded}
 use Rattle.mot_base.proofs.Lists.{some_at, cons_same as heads_tails}
 
 -- ---- several files
@@ -302,6 +301,21 @@ all_read told rose request circuit values c files end reads are (inl m) = inl (i
 all_read told rose request circuit values c files end reads are (inr m) = inr m
 
 -- `local`, where circuit and values are loaded
+-- circuit or values are not loaded
+pub both_unloaded : (told : Option Holding) (rose : Type 0) (request : LocalRequest) (end : Outcome) →
+    AreUnloaded told rose request.circuit request.values end ⊎ (end ≡ memory) → LocalEnds told rose request end ⊎ (end ≡ memory)
+both_unloaded told rose request end (inl (inl m)) = inl (inl m)
+both_unloaded told rose request end (inl (inr (c, is, inl m))) = inl (inr (c, is, inl m))
+both_unloaded told rose request end (inl (inr (c, is, inr (v, held, void)))) = absurd void
+both_unloaded told rose request end (inr m) = inr m
+
+-- a file of a part is not loaded
+pub parts_unloaded : (told : Option Holding) (rose : Type 0) (request : LocalRequest) (circuit values : Text) (c : Circuit) (end : Outcome) →
+    Reads request.bristol circuit c → IsFirstUnloaded told rose (part_names request.dealer (parties_of c)) end ⊎ (end ≡ memory) →
+    LocalTexts told rose request circuit values end ⊎ (end ≡ memory)
+parts_unloaded told rose request circuit values c end reads (inl m) = inl (inr (c, reads, inl m))
+parts_unloaded told rose request circuit values c end reads (inr m) = inr m
+
 pub both_loaded : (told : Option Holding) (rose since : Type 0) (request : LocalRequest) (circuit values : Text) (end : Outcome) →
     (rose → since) → IsContent told request.circuit circuit → IsContent told request.values values →
     LocalTexts told rose request circuit values end ⊎ (end ≡ memory) → LocalEnds told since request end ⊎ (end ≡ memory)

@@ -13,10 +13,11 @@ use Rattle.circuit_tables.specs.Table.{Output, Told, asked, is_asked, AreCut}
 use Rattle.mot_base.proofs.Lists.{take_next, some_at}
 use Rattle.text_lines.specs.Text.{Text}
 use Rattle.gate_tasks.specs.declared.report.PartyReport.{PartyReport}
-use Rattle.motion_cli.specs.declared.report.Notation.{Notation}
-use Rattle.motion_cli.specs.declared.report.Notation.TheVariants.{Decimal, Hexadecimal}
-use Rattle.motion_cli.specs.Report.{hexadecimal_digits, AreShort, AreNarrow, PartyRun, output_line, output_lines, run_report, runs_report}
-use Rattle.motion_cli.specs.Outcome.{line, line_end}
+use Rattle.any_circuit.specs.declared.notation.Notation.{Notation}
+use Rattle.any_circuit.specs.declared.notation.Notation.TheVariants.{Decimal, Hexadecimal}
+use Rattle.motion_cli.specs.Report.{hexadecimal_digits, PartyRun, output_line, output_lines, run_report, runs_report}
+use Rattle.any_circuit.specs.Notation.{AreShort, AreNarrow}
+use Rattle.command_ends.specs.Outcome.{line, line_end}
 use Rattle.motion_cli.specs.Run.{IsRunOf, AreRunsOf}
 use Rattle.motion_cli.proofs.DealerLemmas.{length_taken}
 

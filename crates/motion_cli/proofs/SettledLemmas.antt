@@ -1,6 +1,7 @@
 -- What the words and the files of a call settle.
 use Rattle.std.proofs.Common.{ℕ, ◌≡◌, ◌<◌, ◌⊎◌, inl, inr, Bool, List, [], length, Option, Some, None, sym, ap, subst, ◌∙◌}
-use Rattle.std.specs.Prelude.{codes, map, true, false}
+use Rattle.std.specs.Prelude.{codes, map, true, false, ◌++◌}
+use Rattle.std.specs.Fmt.{decimal}
 use Rattle.mot_base.specs.Files.{Holding}
 use Rattle.mot_base.specs.Limits.{most_file_bytes}
 use Rattle.share_types.specs.Bits.{number}
@@ -23,27 +24,30 @@ use Rattle.bristol_reader.specs.Eval as bristol_eval
 use Rattle.bristol_reader.specs.Grammar as bristol_text
 use Rattle.bristol_reader.proofs.EvalLemmas.{same_outputs}
 use Rattle.bristol_reader.proofs.ReadCircuitLemmas.{reads_circuit}
-use Rattle.motion_cli.specs.declared.circuit.CircuitFault.{CircuitFault}
-use Rattle.motion_cli.specs.declared.circuit.CircuitFault.TheVariants as fault
+use Rattle.command_ends.specs.declared.fault.CircuitFault.{CircuitFault}
+use Rattle.command_ends.specs.declared.fault.CircuitFault.TheVariants as fault
 use Rattle.plan_gates.specs.Plan.{has_keys}
-use Rattle.motion_cli.specs.Commands.{ReadsCircuit, ReadsInputs, Reports, LoadsBoth, HasTooMany, gates_refused, UnlessUnplanned, UnlessKeyed, PlainReads, PlainEnds, NeedsReads, NeedsEnds, DealEnds, LocalReads, LocalTexts, LocalEnds, RequestEnds, request_files}
-use Rattle.motion_cli.specs.Ending.{no_files}
-use Rattle.motion_cli.specs.Outcome.{Outcome, file_refused, circuit_refused, values_refused, reported, at_line, line}
-use Rattle.motion_cli.specs.Parts.{part_name, part_files, part_length, deal_files, deal_id, dealt_line}
-use Rattle.motion_cli.specs.Refusal.{circuit_cause, values_cause}
-use Rattle.motion_cli.specs.Circuits.{Circuit, Mixed, InBristol, Reads, FirstFault, inputs_of, parties_of, is_built, plan_of, IsPlain, notation_of}
+use Rattle.motion_cli.specs.Commands.{ReadsCircuit, ReadsInputs, Reports, HasTooMany, gates_refused, UnlessKeyed, PlainReads, NeedsReads, DealEnds, LocalReads, LocalTexts, RequestEnds, request_files}
+use Rattle.command_ends.proofs.AnswerLemmas.{IsSettled}
+use Rattle.command_ends.specs.Outcome.{Outcome, file_refused, circuit_refused, values_refused, reported, at_line, line, part_name}
+use Rattle.motion_cli.specs.Parts.{part_files, part_length, deal_files, deal_id, dealt_line}
+use Rattle.command_ends.specs.Refusal.{circuit_cause, values_cause}
+use Rattle.any_circuit.specs.Circuits.{Circuit, Mixed, InBristol, Reads, FirstFault, inputs_of, parties_of, gates_of, plan_of, IsPlain, notation_of}
 use Rattle.motion_cli.specs.Report.{output_lines, needs_report}
 use Rattle.motion_cli.specs.Run.{AreSound, owns_in}
 use Rattle.motion_cli.specs.Dealer.{part_names}
 use Rattle.cli_words.specs.Request.{Request, Bristol, PlainRequest, NeedsRequest, DealRequest, LocalRequest, plain, needs, deal, local}
 use Rattle.motion_cli.specs.Words.{AsksFor}
 use Rattle.motion_cli.proofs.PartsLemmas.{stored_files}
-use Rattle.motion_cli.proofs.StepLemmas.{Agree, Fair, Refuses, Gives, carried, refuses_so, file_refuses, circuit_refuses, gates_refuses, values_refuses, one_fault, loads_agree, loads_fair, reads_agree, reads_fair, unless_agree, unless_fair, stores_agree, stores_fair}
+use Rattle.command_ends.proofs.StepLemmas.{Agree, Fair, Refuses, Gives, carried, refuses_so, file_refuses, circuit_refuses, values_refuses, one_fault, loads_agree, loads_fair, reads_agree, reads_fair, unless_agree, unless_fair, stores_agree, stores_fair}
 use Rattle.motion_cli.proofs.LocalLemmas.{all_agree, all_fair, parts_agree, parts_fair, run_agree, run_fair}
 use Rattle.motion_cli.proofs.WordsLemmas.{asked_once}
-use Rattle.motion_cli.specs.Steps.{Fault, Loads, StoresAll}
+use Rattle.command_ends.specs.Steps.{Fault, Loads, StoresAll, LoadsBoth}
 
 -- The commands.
+
+pub gates_refuses : (name : Text) (c : Circuit) → Refuses [] (gates_refused name c)
+gates_refuses name c = circuit_refuses [] name (codes "gates " ++ line (decimal (gates_of c)))
 
 -- the outputs of the plain evaluation of a circuit that was read
 plain_is_one : (b : Option Bristol) (text : Text) (c : Circuit) (v : List (List Bool)) (o p : List Told) → Reads b text c →
@@ -181,17 +185,6 @@ says_fair text x m = inr (record {
   fair = m;
 })
 
-unplanned_agree : (name : Text) (c : Circuit) (P Q : Outcome → Type 0) → Agree P Q → Agree (UnlessUnplanned name c P) (UnlessUnplanned name c Q)
-unplanned_agree name c P Q next =
-    unless_agree (is_built c ≡ false) (circuit_refused name (line (codes "not built"))) _ _
-    (unless_agree (HasTooMany c) (gates_refused name c) P Q next)
-
-unplanned_fair : (name : Text) (c : Circuit) (P Q : Outcome → Type 0) → Fair [] P Q → Fair [] (UnlessUnplanned name c P) (UnlessUnplanned name c Q)
-unplanned_fair name c P Q next =
-    unless_fair [] (is_built c ≡ false) (circuit_refused name (line (codes "not built"))) _ _
-    (circuit_refuses [] name (line (codes "not built")))
-    (unless_fair [] (HasTooMany c) (gates_refused name c) P Q (gates_refuses name c) next)
-
 keyed_agree : (name : Text) (c : Circuit) (P Q : Outcome → Type 0) → Agree P Q → Agree (UnlessKeyed name c P) (UnlessKeyed name c Q)
 keyed_agree name c P Q next =
     unless_agree (has_keys (plan_of c) ≡ true) (circuit_refused name (line (codes "not built"))) P Q next
@@ -203,16 +196,16 @@ keyed_fair name c P Q next =
 
 needs_agree : (request : NeedsRequest) (circuit : Text) → Agree (NeedsReads request circuit) (NeedsReads request circuit)
 needs_agree request circuit = circuit_agree request.bristol request.circuit circuit _ _
-    (λ c reads. unplanned_agree request.circuit c _ _ (says_agree (reported (needs_report (plan_of c)))))
+    (λ c reads. unless_agree (HasTooMany c) (gates_refused request.circuit c) _ _ (says_agree (reported (needs_report (plan_of c)))))
 
 needs_fair : (request : NeedsRequest) (circuit : Text) → Fair [] (NeedsReads request circuit) (NeedsReads request circuit)
 needs_fair request circuit = circuit_fair request.bristol request.circuit circuit _ _
-    (λ c. unplanned_fair request.circuit c _ _ (says_fair (needs_report (plan_of c))))
+    (λ c. unless_fair [] (HasTooMany c) (gates_refused request.circuit c) _ _ (gates_refuses request.circuit c) (says_fair (needs_report (plan_of c))))
 
 local_agree : (request : LocalRequest) (values : Text) (c : Circuit) (files : List Text) →
     Agree (LocalReads request values c files) (LocalReads request values c files)
 local_agree request values c files =
-    unplanned_agree request.circuit c _ _
+    unless_agree (HasTooMany c) (gates_refused request.circuit c) _ _
     (keyed_agree request.circuit c _ _
     (inputs_agree request.values c values _ _
     (λ v. parts_agree request c files _ _
@@ -221,7 +214,7 @@ local_agree request values c files =
 local_fair : (request : LocalRequest) (values : Text) (c : Circuit) (files : List Text) →
     Fair [] (LocalReads request values c files) (LocalReads request values c files)
 local_fair request values c files =
-    unplanned_fair request.circuit c _ _
+    unless_fair [] (HasTooMany c) (gates_refused request.circuit c) _ _ (gates_refuses request.circuit c)
     (keyed_fair request.circuit c _ _
     (inputs_fair request.values c values _ _
     (λ v. parts_fair request c files _ _
@@ -241,13 +234,6 @@ deal_fair told rose r x (inr m) =
     subst (λ files. Refuses files x ⊎ Gives files (DealEnds told ⊥ r) x) (sym (stored_files r m.0))
     (carried (part_files r) (StoresAll ⊥ (part_files r) (reported text)) (DealEnds told ⊥ r) x (λ q. inr (m.0, q))
     (stores_fair (part_files r) text rose x m.1))
-
--- What a command has to show: words ask for one request at most, outcomes agree, and each is a refusal or a report.
-pub record IsSettled {R : Type 0} (asks : R → Type 0) (ends : Option Holding → Type 0 → R → Outcome → Type 0)
-    (files : R → List (Text × Text)) : Type 1 where
-  pub one : (r s : R) → asks r → asks s → r ≡ s
-  pub agree : (held : Holding) (rose : Type 0) (r : R) → ¬ rose → Agree (ends (Some held) rose r) (ends (Some held) ⊥ r)
-  pub fair : (told : Option Holding) (rose : Type 0) (r : R) → Fair (files r) (ends told rose r) (ends told ⊥ r)
 
 request_agree : (held : Holding) (rose : Type 0) (r : Request) → ¬ rose → Agree (RequestEnds (Some held) rose r) (RequestEnds (Some held) ⊥ r)
 request_agree held rose (plain r) quiet = both_agree held rose r.circuit r.values (PlainReads r) (PlainReads r) quiet (plain_agree r)

@@ -40,17 +40,17 @@ use Rattle.local_run.specs.Report.{AreReports, plain_told}
 use Rattle.local_run.specs.Told.{AreToldInPlain}
 use Rattle.local_run.proofs.Seeding.{honest_parts_serve, jobs_of_seed_serve, jobs_of_seed_are_honest}
 use Rattle.text_lines.specs.Text.{Text}
-use Rattle.motion_cli.specs.declared.dealer.Difference.{Difference}
-use Rattle.motion_cli.specs.declared.dealer.Field.{Field}
-use Rattle.motion_cli.specs.declared.dealer.Field.TheVariants.{Parties, Party, Id, Mult, Bit, Shared, Key}
-use Rattle.motion_cli.specs.Circuits.{Circuit, Mixed, InBristol, inputs_of, outputs_of, parties_of, is_built, plan_of, notation_of, IsWhole, Keeps, IsPlain}
+use Rattle.command_ends.specs.declared.fault.Difference.{Difference}
+use Rattle.command_ends.specs.declared.fault.Field.{Field}
+use Rattle.command_ends.specs.declared.fault.Field.TheVariants.{Parties, Party, Id, Mult, Bit, Shared, Key}
+use Rattle.any_circuit.specs.Circuits.{Circuit, Mixed, InBristol, inputs_of, outputs_of, parties_of, plan_of, notation_of, IsWhole, Keeps, IsPlain, told_to}
 use Rattle.motion_cli.specs.Commands.{HasTooMany, ReportsRun, LocalReads}
 use Rattle.motion_cli.specs.Dealer.{part_names, differs, count_difference, difference, AreRead, AreEnough, AreTaken, IsUntaken}
-use Rattle.motion_cli.specs.Outcome.{Outcome, reported, memory}
-use Rattle.motion_cli.specs.Parts.{dealer_seed, part_name}
-use Rattle.motion_cli.specs.Report.{PartyRun, runs_report, told_to}
+use Rattle.command_ends.specs.Outcome.{Outcome, reported, memory, part_name}
+use Rattle.motion_cli.specs.Parts.{dealer_seed}
+use Rattle.motion_cli.specs.Report.{PartyRun, runs_report}
 use Rattle.motion_cli.specs.Run.{AreRunsOf, AreHonestParts, AreSound, TellPlainly, owns_in}
-use Rattle.motion_cli.proofs.TellingLemmas.{plain_exists, told_widths, tells_plainly}
+use Rattle.any_circuit.proofs.TellingLemmas.{plain_exists, told_widths, tells_plainly}
 use Rattle.mot_base.proofs.Lists.{some_at}
 
 pub plan_parties : (c : Circuit) → (plan_of c).parties ≡ parties_of c
@@ -167,11 +167,11 @@ taken_sound (Some prefix) seed c files parts some taken sound = sound
 -- ---- what a run tells
 
 -- the widths of what a party is told are those of its outputs
-pub widths_told : (c : Circuit) (owns : List Own) (table : Payloads) (p : ℕ) (report : PartyReport) → IsWhole c → Keeps c (plan_of c) →
+pub widths_told : (c : Circuit) (owns : List Own) (table : Payloads) (p : ℕ) (report : PartyReport) → IsWhole c → IsPlan (plan_of c) → Keeps c (plan_of c) →
     engine.IsReport (plan_of c) owns table p report →
     total_width (asked (Some (record { 0 = p })) (outputs_of c)) ≡ sum_by (λ (v : Bits). v.width) report.told
-widths_told c owns table p report whole keeps is =
-    told_widths c p whole keeps ∙ (ap sum (sym is.widths) ∙ summed report.told)
+widths_told c owns table p report whole valid keeps is =
+    told_widths c p whole valid keeps ∙ (ap sum (sym is.widths) ∙ summed report.told)
   where
     summed : (vs : List Bits) → sum (map (λ (v : Bits). v.width) vs) ≡ sum_by (λ (v : Bits). v.width) vs
     summed [] = refl
@@ -192,10 +192,12 @@ honest_all c seed v parts some serve (id, counts, together) =
     let P : ℕ → Type 0 = λ n. HonestTogether parts n id counts in
     let mult = serve.records 0 first.0 kind.Mult first.1 in
     let bit = serve.records 0 first.0 kind.Bit first.1 in
+    let key = serve.records 0 first.0 kind.Key first.1 in
     let mults = ap (λ (n : Needs). n.mult) same in
     let bits = ap (λ (n : Needs). n.bit) same in
+    let keys = ap (λ (n : Needs). n.key) same in
     jobs_of_seed_are_honest (plan_of c) seed (inputs_of c) v parts id counts (subst P count together)
-    (omega (arith, mult, mults)) (omega (arith, bit, bits))
+    (omega (arith, mult, mults)) (omega (arith, bit, bits)) (omega (arith, key, keys))
 
 -- what is reported of a run is what the joint run tells all parties, and with honest parts their outputs of the plain
 -- evaluation
@@ -259,7 +261,7 @@ run_reported c seed v parts owns reports runs text owns_are whole keeps plan unk
               words = plain no_needs 0 (only (map number v)) honest_owns inputs_owns p report.0 report.1;
               widths = (are.each p report.0 report.1).widths;
             } in
-            tells_plainly c p v report.0.told one.outputs all.0 whole keeps widths in_plain all.1
+            tells_plainly c p v report.0.told one.outputs all.0 whole unkeyed keeps widths in_plain all.1
             (told.each p report.0 one report.1 there).outputs
 
 -- a run from one seed is a job
@@ -278,13 +280,13 @@ pub reports_count : (plan : Gates) (owns : List Own) (reports : List PartyReport
 reports_count plan owns reports joint = (let one = one_joint_run plan owns in (joint one.0 one.1).count)
 
 -- the widths of all that is told
-pub all_widths : (c : Circuit) (owns : List Own) (reports : List PartyReport) → IsWhole c → Keeps c (plan_of c) →
+pub all_widths : (c : Circuit) (owns : List Own) (reports : List PartyReport) → IsWhole c → IsPlan (plan_of c) → Keeps c (plan_of c) →
     ((table : Payloads) → IsJoint (plan_of c) owns table → AreReports (plan_of c) owns table reports) →
     (p : ℕ) (report : PartyReport) → slice_get reports p ≡ Some report →
     total_width (asked (Some (record { 0 = p })) (outputs_of c)) ≡ sum_by (λ (v : Bits). v.width) report.told
-all_widths c owns reports whole keeps joint p report there =
+all_widths c owns reports whole valid keeps joint p report there =
     let one = one_joint_run (plan_of c) owns in
-    widths_told c owns one.0 p report whole keeps ((joint one.0 one.1).each p report there)
+    widths_told c owns one.0 p report whole valid keeps ((joint one.0 one.1).each p report there)
 
 -- a run that is told with less to rely on
 pub sound_run : (sound honest_parts : Type 0) (c : Circuit) (v : List (List Bool)) (owns : List Own) (end : Outcome) → (sound → honest_parts) →
@@ -298,39 +300,33 @@ some_parties (InBristol b c) whole = (let some = whole.1 in omega (arith, some))
 unkeyed_plan : (c : Circuit) → has_keys (plan_of c) ≡ false → ¬ (has_keys (plan_of c) ≡ true)
 unkeyed_plan c unkeyed = λ e. (let no : false ≡ true = sym unkeyed ∙ e in cc)
 
-planned : (c : Circuit) → is_built c ≡ true → ¬ (is_built c ≡ false)
-planned c built = λ e. (let no : true ≡ false = sym built ∙ e in cc)
-
 -- `local` on a circuit that has a plan, and on values that are read, where the parts are not had
 pub no_parts : (request : LocalRequest) (values : Text) (c : Circuit) (files : List Text) (v : List (List Bool)) (end : Outcome) →
-    is_built c ≡ true → ¬ (HasTooMany c) → has_keys (plan_of c) ≡ false → ReadsValues (inputs_of c) None values v →
+    ¬ (HasTooMany c) → has_keys (plan_of c) ≡ false → ReadsValues (inputs_of c) None values v →
     IsUntaken request.dealer c files end ⊎ (end ≡ memory) → LocalReads request values c files end ⊎ (end ≡ memory)
-no_parts request values c files v end built few unkeyed reads (inl m) =
-    inl (inr (planned c built, inr (few, inr (unkeyed_plan c unkeyed, inr (v, reads, inl m)))))
-no_parts request values c files v end built few unkeyed reads (inr m) = inr m
+no_parts request values c files v end few unkeyed reads (inl m) =
+    inl (inr (few, inr (unkeyed_plan c unkeyed, inr (v, reads, inl m))))
+no_parts request values c files v end few unkeyed reads (inr m) = inr m
 
 -- and where it is run
 pub run_reads : (request : LocalRequest) (values : Text) (c : Circuit) (files : List Text) (v : List (List Bool)) (parts : List Part)
-    (end : Outcome) → IsWhole c → is_built c ≡ true → ¬ (HasTooMany c) → has_keys (plan_of c) ≡ false →
+    (end : Outcome) → IsWhole c → ¬ (HasTooMany c) → has_keys (plan_of c) ≡ false →
     ReadsValues (inputs_of c) None values v →
     AreTaken request.dealer request.seed c files parts → ReportsRun (AreHonestParts parts) c v (owns_in request c v parts) end →
     LocalReads request values c files end
-run_reads request values c files v parts end whole built few unkeyed reads taken run =
+run_reads request values c files v parts end whole few unkeyed reads taken run =
     let sound = taken_sound request.dealer request.seed c files parts (some_parties c whole) taken in
     inr (
-      planned c built,
+      few,
       inr (
-        few,
+        unkeyed_plan c unkeyed,
         inr (
-          unkeyed_plan c unkeyed,
+          v,
+          reads,
           inr (
-            v,
-            reads,
-            inr (
-              parts,
-              taken,
-              sound_run (AreSound request.dealer parts) (AreHonestParts parts) c v (owns_in request c v parts) end sound run,
-            ),
+            parts,
+            taken,
+            sound_run (AreSound request.dealer parts) (AreHonestParts parts) c v (owns_in request c v parts) end sound run,
           ),
         ),
       ),

@@ -8,17 +8,17 @@ use Rattle.circuit_values.specs.declared.cause.ValuesCause.{ValuesCause}
 use Rattle.circuit_tables.specs.Table.{Told}
 use Rattle.circuit_values.specs.Values as values
 use Rattle.text_lines.specs.Text.{Text}
-use Rattle.motion_cli.specs.declared.circuit.CircuitFault.{CircuitFault}
+use Rattle.command_ends.specs.declared.fault.CircuitFault.{CircuitFault}
 use Rattle.plan_gates.specs.Plan.{has_keys}
 use Rattle.joint_run.specs.Party.{Own}
-use Rattle.motion_cli.specs.Circuits.{Circuit, Reads, FirstFault, inputs_of, parties_of, gates_of, is_built, plan_of, IsPlain, notation_of}
+use Rattle.any_circuit.specs.Circuits.{Circuit, Reads, FirstFault, inputs_of, parties_of, gates_of, plan_of, IsPlain, notation_of}
 use Rattle.motion_cli.specs.Dealer.{part_names, TakesParts}
-use Rattle.motion_cli.specs.Outcome.{Outcome, reported, line, at_line, file_refused, circuit_refused, values_refused}
-use Rattle.motion_cli.specs.Parts.{part_name, part_files, part_length, deal_files, deal_id, dealt_line}
-use Rattle.motion_cli.specs.Refusal.{circuit_cause, values_cause}
+use Rattle.command_ends.specs.Outcome.{Outcome, reported, line, at_line, part_name, file_refused, circuit_refused, values_refused}
+use Rattle.motion_cli.specs.Parts.{part_files, part_length, deal_files, deal_id, dealt_line}
+use Rattle.command_ends.specs.Refusal.{circuit_cause, values_cause}
 use Rattle.motion_cli.specs.Report.{PartyRun, output_lines, runs_report, needs_report}
 use Rattle.motion_cli.specs.Run.{AreRuns, TellPlainly, AreSound, owns_in}
-use Rattle.motion_cli.specs.Steps.{Fault, Loads, LoadsAll, ReadsAs, Unless, StoresAll}
+use Rattle.command_ends.specs.Steps.{Fault, Loads, LoadsBoth, LoadsAll, ReadsAs, Unless, StoresAll}
 
 -- the text of a file is read as a circuit, where the words say whether it is in Bristol Fashion
 abbrev pub ReadsCircuit : Option Bristol → Text → Text → (Circuit → Outcome → Type 0) → Outcome → Type 0
@@ -39,28 +39,12 @@ ReadsInputs name c text = ReadsAs {F = Fault ValuesCause} {C = List (List Bool)}
 abbrev pub Reports : Circuit → List (List Bool) → (List Told → Text) → Outcome → Type 0
 Reports c v text end = (outputs : List Told) × IsPlain c v outputs × (end ≡ reported (text outputs))
 
--- both files of a command are loaded, the circuit first
-abbrev pub LoadsBoth : Option Holding → Type 0 → Text → Text → (Text → Text → Outcome → Type 0) → Outcome →
-    Type 0
-LoadsBoth told rose circuit values next =
-    Loads told rose circuit (λ c. Loads told rose values (λ v. next c v))
-
--- one of both files is not loaded
-abbrev pub AreUnloaded : Option Holding → Type 0 → Text → Text → Outcome → Type 0
-AreUnloaded told rose circuit values = LoadsBoth told rose circuit values (λ c v end. ⊥)
-
 -- a circuit has too many gates
 abbrev pub HasTooMany : Circuit → Type 0
 HasTooMany c = most_gates < gates_of c
 
 abbrev pub gates_refused : Text → Circuit → Outcome
 gates_refused name c = circuit_refused name (codes "gates " ++ line (decimal (gates_of c)))
-
--- a circuit whose plan is not built, or that has too many gates
-abbrev pub UnlessUnplanned : Text → Circuit → (Outcome → Type 0) → Outcome → Type 0
-UnlessUnplanned name c next =
-    Unless (is_built c ≡ false) (circuit_refused name (line (codes "not built"))) (
-    Unless (HasTooMany c) (gates_refused name c) next)
 
 -- a circuit whose plan has gates of keys, which are not run yet
 abbrev pub UnlessKeyed : Text → Circuit → (Outcome → Type 0) → Outcome → Type 0
@@ -83,7 +67,7 @@ PlainEnds told rose request = LoadsBoth told rose request.circuit request.values
 abbrev pub NeedsReads : NeedsRequest → Text → Outcome → Type 0
 NeedsReads request circuit =
     ReadsCircuit request.bristol request.circuit circuit (λ c.
-    UnlessUnplanned request.circuit c (λ end.
+    Unless (HasTooMany c) (gates_refused request.circuit c) (λ end.
     end ≡ reported (needs_report (plan_of c))))
 
 -- `needs`: how many gates a circuit has, and how many correlations of each kind they need
@@ -101,7 +85,7 @@ ReportsRun sound c v owns end =
 -- `local`, once the circuit is read and all files are loaded: the files of the parts are judged behind the values
 abbrev pub LocalReads : LocalRequest → Text → Circuit → List Text → Outcome → Type 0
 LocalReads request values c files =
-    UnlessUnplanned request.circuit c (
+    Unless (HasTooMany c) (gates_refused request.circuit c) (
     UnlessKeyed request.circuit c (
     ReadsInputs request.values c values (λ v.
     TakesParts request c files (λ parts.

@@ -15,15 +15,15 @@ use Rattle.dealer_maker.specs.Draws.{parts_drawn}
 use Rattle.plan_gates.specs.Needs.{all_needs}
 use Rattle.joint_run.specs.Honest.{no_part}
 use Rattle.text_lines.specs.Text.{Text}
-use Rattle.motion_cli.specs.declared.dealer.Field.{Field}
-use Rattle.motion_cli.specs.declared.dealer.Field.TheVariants.{Parties, Party, Id, Mult, Bit, Shared, Key}
-use Rattle.motion_cli.specs.declared.dealer.Difference.{Difference}
-use Rattle.motion_cli.specs.declared.dealer.PartFault.{PartFault}
-use Rattle.motion_cli.specs.declared.dealer.PartFault.TheVariants.{Unread, Differs}
-use Rattle.motion_cli.specs.Circuits.{Circuit, parties_of, plan_of}
-use Rattle.motion_cli.specs.Outcome.{Outcome}
-use Rattle.motion_cli.specs.Parts.{part_name, dealer_seed}
-use Rattle.motion_cli.specs.Refusal.{dealer_refused, few_refused}
+use Rattle.command_ends.specs.declared.fault.Field.{Field}
+use Rattle.command_ends.specs.declared.fault.Field.TheVariants.{Parties, Party, Id, Mult, Bit, Shared, Key}
+use Rattle.command_ends.specs.declared.fault.Difference.{Difference}
+use Rattle.command_ends.specs.declared.fault.PartFault.{PartFault}
+use Rattle.command_ends.specs.declared.fault.PartFault.TheVariants.{Unread, Differs}
+use Rattle.any_circuit.specs.Circuits.{Circuit, parties_of, plan_of}
+use Rattle.command_ends.specs.Outcome.{Outcome, part_name}
+use Rattle.motion_cli.specs.Parts.{dealer_seed}
+use Rattle.command_ends.specs.Refusal.{dealer_refused, few_refused}
 
 -- the files that the words name, one for each party, or none
 abbrev pub part_names : Option Text → ℕ → List Text

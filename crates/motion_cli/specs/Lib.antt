@@ -1,13 +1,6 @@
-pub mod Circuits
 pub mod Commands
 pub mod Dealer
-pub mod Ending
-pub mod Outcome
-pub mod Refusal
 pub mod Report
 pub mod Run
-pub mod Steps
 pub mod Words
-pub mod Settled
-pub mod Coming
 pub mod Parts

@@ -9,7 +9,7 @@ use Rattle.dealer_files.specs.Part.{Part}
 use Rattle.dealer_files.specs.File.{file_of, file_length}
 use Rattle.dealer_maker.specs.Draws.{parts_drawn}
 use Rattle.text_lines.specs.Text.{Text}
-use Rattle.motion_cli.specs.Outcome.{line}
+use Rattle.command_ends.specs.Outcome.{line, part_name}
 
 -- how many records of each kind are asked for
 abbrev pub counts_asked : DealRequest → Needs
@@ -27,10 +27,6 @@ dealer_label = 255
 -- the seed of the dealer's tape
 abbrev pub dealer_seed : List ℕ → List ℕ
 dealer_seed seed = derived_seed seed dealer_label
-
--- the name of a party's file: the prefix, a dot and the party's number
-abbrev pub part_name : Text → ℕ → Text
-part_name prefix party = prefix ++ (codes "." ++ decimal party)
 
 -- the file of a part, with its name
 abbrev pub part_file : Text → Part → Text × Text

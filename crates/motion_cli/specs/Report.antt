@@ -1,19 +1,17 @@
 -- What commands report.
-use Rattle.std.specs.Prelude.{ℕ, zero, suc, ◌≤◌, Bool, false, List, [], ◌∷◌, ◌++◌, All, codes, filter, length, take, drop, ◌+◌, ◌/◌}
+use Rattle.std.specs.Prelude.{ℕ, zero, suc, Bool, false, List, [], ◌∷◌, ◌++◌, codes, length, take, drop, ◌+◌, ◌/◌}
 use Rattle.std.specs.Fmt.{decimal, digits}
 use Rattle.std.specs.List.{flat_map}
 use Rattle.hex.specs.Hex.{encode_lower}
-use Rattle.mot_base.specs.Limits.{most_width}
 use Rattle.share_types.specs.Bits.{number}
 use Rattle.share_types.specs.declared.needs.Needs.{Needs}
-use Rattle.circuit_tables.specs.Table.{Output, Told}
-use Rattle.share_types.specs.Wires.{includes}
+use Rattle.circuit_tables.specs.Table.{Told}
 use Rattle.text_lines.specs.Text.{Text}
 use Rattle.plan_gates.specs.Plan.{Gates}
 use Rattle.plan_gates.specs.Needs.{all_needs}
-use Rattle.motion_cli.specs.Outcome.{line, line_end}
-use Rattle.motion_cli.specs.declared.report.Notation.{Notation}
-use Rattle.motion_cli.specs.declared.report.Notation.TheVariants.{Decimal, Hexadecimal}
+use Rattle.command_ends.specs.Outcome.{line, line_end}
+use Rattle.any_circuit.specs.declared.notation.Notation.{Notation}
+use Rattle.any_circuit.specs.declared.notation.Notation.TheVariants.{Decimal, Hexadecimal}
 
 -- bits as so many lower-case hexadecimal digits, each of four bits, the highest digit first
 abbrev pub hexadecimal_digits : ℕ → List Bool → Text
@@ -26,16 +24,6 @@ abbrev pub written : Notation → List Bool → Text
 written Decimal bits = decimal (number bits)
 written Hexadecimal bits = codes "0x" ++ hexadecimal_digits ((length bits + 3) / 4) bits
 
--- whether all outputs can be written so: decimal numbers have at most 64 bits
-abbrev pub AreShort : Notation → List Told → Type 0
-AreShort Decimal outputs = All (λ t. length t.bits ≤ most_width) outputs
-AreShort Hexadecimal outputs = Unit {0}
-
--- whether all outputs of a table can be
-abbrev pub AreNarrow : Notation → List Output → Type 0
-AreNarrow Decimal table = All (λ o. o.width ≤ most_width) table
-AreNarrow Hexadecimal table = Unit {0}
-
 -- the line of an output: its name and its value
 abbrev pub output_line : Notation → Told → Text
 output_line notation output = output.name ++ (codes " = " ++ line (written notation output.bits))
@@ -44,10 +32,6 @@ output_line notation output = output.name ++ (codes " = " ++ line (written notat
 abbrev pub output_lines : Notation → List Told → Text
 output_lines notation [] = []
 output_lines notation (output ∷ more) = output_line notation output ++ output_lines notation more
-
--- the outputs that a party is told
-abbrev pub told_to : ℕ → List Told → List Told
-told_to party outputs = filter (λ output. includes output.to party) outputs
 
 -- what is reported of a party: its number, the outputs that it is told, and the digest of all that it sent
 pub record PartyRun : Type 0 where

@@ -12,8 +12,8 @@ use Rattle.local_run.specs.OneSeed.{owns_of}
 use Rattle.local_run.specs.Meaning.{owns_with}
 use Rattle.local_run.specs.Report.{AreReports}
 use Rattle.text_lines.specs.Text.{Text}
-use Rattle.motion_cli.specs.Circuits.{Circuit, inputs_of, outputs_of, parties_of, plan_of, IsPlain}
-use Rattle.motion_cli.specs.Report.{PartyRun, told_to}
+use Rattle.any_circuit.specs.Circuits.{Circuit, inputs_of, outputs_of, parties_of, plan_of, IsPlain, told_to}
+use Rattle.motion_cli.specs.Report.{PartyRun}
 
 -- what a party was told is cut into those outputs of a circuit that it is to be told
 pub record IsRunOf (table : List Output) (p : ℕ) (report : PartyReport) (run : PartyRun) : Type 0 where

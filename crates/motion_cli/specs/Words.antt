@@ -6,7 +6,7 @@ use Rattle.cli_words.specs.Request.{Request, command_of}
 use Rattle.cli_words.specs.declared.table.Command.{Command}
 use Rattle.cli_words.specs.declared.table.Command.TheVariants.{Plain, Needs, Deal, Local}
 use Rattle.cli_words.specs.declared.table.OptionName.{OptionName}
-use Rattle.cli_words.specs.declared.table.OptionName.TheVariants.{As, Parties, Dealer}
+use Rattle.cli_words.specs.declared.table.OptionName.TheVariants.{As, Parties, Dealer, Workers}
 use Rattle.cli_words.specs.declared.table.Offer.{Offer}
 use Rattle.text_lines.specs.Text.{Text}
 
@@ -14,7 +14,7 @@ use Rattle.text_lines.specs.Text.{Text}
 abbrev pub run_commands : List (Command × List OptionName)
 run_commands =
     (Plain, As ∷ Parties ∷ []) ∷ (Needs, As ∷ Parties ∷ []) ∷ (Deal, [])
-    ∷ (Local, As ∷ Parties ∷ Dealer ∷ []) ∷ []
+    ∷ (Local, As ∷ Parties ∷ Dealer ∷ Workers ∷ []) ∷ []
 
 abbrev pub command_offered : Offer → Command × List OptionName
 command_offered offer = (offer.command, offer.options.now)

@@ -1,18 +1,16 @@
 //! What the program does with its words.
 #![tactic(auto)]
 
-mod circuit;
 mod commands;
-mod dealer;
-mod end;
-mod load;
+mod deal;
 mod local;
+mod needs;
 mod offers;
-mod parts;
+mod plain;
 mod program;
-mod refusal;
 mod report;
-mod status;
+mod run_parts;
+mod workers;
 
+pub use command_ends::Status;
 pub use program::{deal_command, local_command, motion, needs_command, plain_command};
-pub use status::Status;

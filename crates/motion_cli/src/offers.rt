@@ -21,7 +21,12 @@ pub(crate) fn offers() -> &'static [Offer]
         },
         Offer {
             command: Command::Local,
-            options: &[OptionName::As, OptionName::Parties, OptionName::Dealer],
+            options: &[
+                OptionName::As,
+                OptionName::Parties,
+                OptionName::Dealer,
+                OptionName::Workers,
+            ],
         },
     ]
 }

@@ -1,31 +1,23 @@
-ghost use Rattle.std.specs.Prelude.{◌≡◌, ◌<◌, ◌≤◌, ◌+◌, ◌/◌, ◌++◌, ℕ, List, Some, length, take, slice_get, [], false, codes, IfOk, IfSome, OnOk, string_bytes, if◌then◌else◌};
+ghost use Rattle.std.specs.Prelude.{◌≡◌, ◌<◌, ◌≤◌, ◌+◌, ◌/◌, ◌++◌, ℕ, List, Some, length, take, slice_get, [], false, IfOk, IfSome, OnOk, string_bytes, if◌then◌else◌};
 ghost use Rattle.std.specs.Fmt.{digits};
-ghost use Rattle.hex.specs.Hex.{encode_lower};
 ghost use Rattle.share_types.specs.Bits.{number};
 ghost use Rattle.std.specs.List.{sum_by};
 ghost use Rattle.mot_base.specs.Limits.{most_parties};
 ghost use Rattle.circuit_tables.specs.Table.{asked, total_width};
 ghost use Rattle.gate_tasks.specs.declared.report.PartyReport as spec;
-ghost use Rattle.motion_cli.specs.Report.{hexadecimal_digits, AreShort, AreNarrow, PartyRun, output_line, output_lines, run_report, runs_report, needs_lines, needs_report};
-ghost use Rattle.motion_cli.specs.Outcome.{line};
+ghost use Rattle.motion_cli.specs.Report.{hexadecimal_digits, PartyRun, output_line, output_lines, run_report, runs_report, needs_lines, needs_report};
+ghost use Rattle.any_circuit.specs.Notation.{AreShort, AreNarrow};
 ghost use Rattle.motion_cli.specs.Run.{IsRunOf, AreRunsOf};
 
+use any_circuit::Notation;
 use circuit_values::{OutputTable, Outputs, number_of};
+use command_ends::push_digest;
 use gate_plan::Plan;
 use local_engine::PartyReport;
 use mot_base::{NoMemory, Party};
 use share_types::Needs;
 use std::alloc::{AllocError, Global};
 use std::fmt::Write;
-
-/// How the values of outputs are written.
-#[derive(Clone, Copy, Debug, PartialEq, Eq)]
-pub enum Notation {
-    /// In decimal digits.
-    Decimal,
-    /// As `0x` and a lower-case hexadecimal digit for each four bits.
-    Hexadecimal,
-}
 
 /// The report of all outputs, whoever is told them.
 pub(crate) fn report_all(
@@ -93,16 +85,6 @@ fn push_run(
     write!(text, "party {party}\n")?;
     push_outputs(text, notation, &outputs)?;
     push_digest(alloc, text, report.digest)?;
-    Ok(())
-}
-
-/// Adds the digest of what a party sent.
-fn push_digest(alloc: Global, text: &mut String, digest: [u8; 32]) -> Result<(), NoMemory>
-    ensures { OnOk result (string_bytes text.new
-        ≡ string_bytes text.old ++ (codes "digest " ++ line (encode_lower digest))) }
-{
-    let digest = hex::encode(alloc, digest)?;
-    write!(text, "digest {digest}\n")?;
     Ok(())
 }
 

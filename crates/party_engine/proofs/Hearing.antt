@@ -44,13 +44,6 @@ still_scene b inbox more p scene slots still = record {
   follows = λ got extends. scene.follows got (still_extends inbox more got still extends);
 }
 
-pub still_begun : (b : Side) (inbox more : InboxContents) (before now : Option ByParty) → HasBegun b inbox before now → StillKeeps inbox more → HasBegun b more before now
-still_begun b inbox more before now begun still = record {
-  log = begun.log;
-  lawful = λ g. (let one = begun.lawful g in (one.0, one.1, λ got extends. one.2 got (still_extends inbox more got still extends)));
-  sent = begun.sent;
-}
-
 -- ---- the same links
 
 pub has_kept : (before : ByParty) (told now : Option ByParty) (place : Place) (inbox : InboxContents) (peers : List PeerRead) → HasTaken before told place inbox peers → IsKept told now → HasTaken before now place inbox peers

@@ -1,4 +1,5 @@
 pub mod Conversing
+pub mod Counted
 pub mod Hearing
 pub mod HonestRun
 pub mod Kept
@@ -8,3 +9,5 @@ pub mod Resting
 pub mod Rounds
 pub mod Said
 pub mod Sending
+pub mod Refused
+pub mod SentOn

@@ -1,5 +1,5 @@
 -- One party's run: what it is asked on, and what its end tells.
-use Rattle.std.specs.Prelude.{ℕ, ◌≡◌, ◌<◌, ◌⊎◌, false, ◌&&◌, ◌==◌, Bool, List, filter, slice_get, Option, Some, None, option_map}
+use Rattle.std.specs.Prelude.{ℕ, ◌≡◌, ◌<◌, ◌⊎◌, ◌++◌, false, ◌&&◌, ◌==◌, Bool, List, filter, slice_get, Option, Some, None, option_map}
 use Rattle.std.specs.FinMap as map
 use Rattle.mot_base.specs.Limits.{session_count}
 use Rattle.mot_base.specs.Links.{ByParty, IsPeer}
@@ -106,3 +106,12 @@ abbrev pub AreHonestPeers : Side → Run → Payloads → ByParty → Type 0
 AreHonestPeers b run table before =
     (q : ℕ) → IsPeer (Some (place_in run b.own.me)) q →
     IsHonestStream (hello_of run (party q) b.own.me) (sends_to b.plan table q (me_of b)) (before q)
+
+-- what a party has sent to each other one, behind what was sent before, is an honest stream of what it has to send it in
+-- that joint run
+abbrev pub HasSentHonestly : Side → Run → Payloads → ByParty → Option ByParty → Type 0
+HasSentHonestly b run table sent now =
+    (after : ByParty) × (now ≡ Some after)
+    × ((q : ℕ) → IsPeer (Some (place_in run b.own.me)) q →
+    (stream : List ℕ) × (after q ≡ sent q ++ stream)
+    × IsHonestStream (hello_of run b.own.me (party q)) (sends_to b.plan table (me_of b) q) stream)

@@ -5,6 +5,7 @@ use Rattle.mot_base.specs.Links.{ByParty, IsPeer}
 use Rattle.mot_base.specs.declared.Party.{Party}
 use Rattle.mot_base.specs.declared.links.Place.{Place}
 use Rattle.frames.specs.Bytes.{canonical, IsPayload}
+use Rattle.frames.specs.Reading.{Progress as ReadSoFar, Reads}
 use Rattle.frames.specs.declared.frame.Frame.{Frame}
 use Rattle.frames.specs.declared.frame.Frame.TheVariants.{Message}
 use Rattle.message_demux.specs.Kept.{InboxContents}
@@ -12,8 +13,10 @@ use Rattle.plan_gates.specs.Messages.{stages}
 use Rattle.joint_run.specs.Party.{Inbox}
 use Rattle.gate_tasks.specs.declared.outgoing.Out.{Out}
 use Rattle.peer_streams.specs.declared.run.Run.{Run}
-use Rattle.peer_streams.specs.Runs.{hellos_from, ends_for}
+use Rattle.peer_streams.specs.Reading.{KeepsOf}
+use Rattle.peer_streams.specs.Runs.{party, place_in, hellos_from, ends_for}
 use Rattle.peer_streams.specs.Sending.{AreSent, AreBegun, bytes_for}
+use Rattle.peer_streams.specs.Taking.{AreTaken}
 use Rattle.party_stages.specs.Following.{Side, me_of, hand_of, Extends, Progress, said_at, outs_before}
 
 -- the frame of a message
@@ -49,6 +52,23 @@ pub record HasBegun (b : Side) (inbox : InboxContents) (before now : Option ByPa
   pub lawful : IsLawful b inbox log
   pub sent : AreBegun before now (bytes_of log)
 
+-- What an inbox keeps are the messages that first bytes of each peer hold. All of these were taken, of those that links had
+-- left before.
+pub record CameIn (before : ByParty) (told : Option ByParty) (place : Place) (inbox : InboxContents) : Type 0 where
+  pub first : ByParty
+  pub behind : ByParty
+  pub are_taken : AreTaken before told (λ q. first q ++ behind q)
+  pub each : (q : ℕ) → IsPeer (Some place) q →
+      (frames : List Frame) × (progress : ReadSoFar) × Reads (first q) frames progress × KeepsOf inbox (party q) frames
+
+-- What was sent until an end that may be any: first bytes of messages that the equations give, each once, for messages that came in.
+pub record HasSaidSome (b : Side) (place : Place) (before : ByParty) (told sent now : Option ByParty) : Type 0 where
+  pub inbox : InboxContents
+  pub came : CameIn before told place inbox
+  pub log : List Out
+  pub lawful : IsLawful b inbox log
+  pub sent_is : AreBegun sent now (bytes_of log)
+
 -- what a party sends each other one: Hello, its messages, End
 abbrev pub talk_of : Run → Party → List Out → ByParty
 talk_of run me log q =
@@ -59,6 +79,15 @@ pub record HasTalked (run : Run) (me : Party) (before now : Option ByParty) (p :
   pub log : List Out
   pub all : AreSent before now (talk_of run me log)
   pub each : (g : ℕ) → at_gate g log ≡ said_at p.said g
+
+-- What a run that was refused has sent: of Hello, messages that the equations give for messages that came in, each once, and
+-- End, to each other party the first bytes.
+pub record HasTalkedSome (b : Side) (run : Run) (me : Party) (before : ByParty) (told sent now : Option ByParty) : Type 0 where
+  pub inbox : InboxContents
+  pub came : CameIn before told (place_in run me) inbox
+  pub log : List Out
+  pub lawful : IsLawful b inbox log
+  pub sent_is : AreBegun sent now (talk_of run me log)
 
 -- a message goes to a peer, and a frame may carry it
 pub record CanSend (place : Place) (out : Out) : Type 0 where

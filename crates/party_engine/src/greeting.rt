@@ -1,11 +1,11 @@
 //! What one party says before its first message and behind its last one.
 
-ghost use Rattle.std.specs.Prelude.{◌≡◌, ◌<◌, ◌≤◌, ℕ, false, Some, OnOk, IfErr, IsErrOf};
+ghost use Rattle.std.specs.Prelude.{◌≡◌, ◌<◌, ◌≤◌, ℕ, false, Some, OnOk, OnErr, IfErr, IsErrOf};
 ghost use Rattle.mot_base.specs.Faults.{Rose};
 ghost use Rattle.mot_base.specs.Limits.{least_parties, most_parties};
 ghost use Rattle.mot_base.specs.Links.{IsKept, IsSame};
 ghost use Rattle.peer_streams.specs.Runs.{place_in, hellos_from, ends_for};
-ghost use Rattle.peer_streams.specs.Sending.{AreSent, IsOfLinks, bytes_for};
+ghost use Rattle.peer_streams.specs.Sending.{AreSent, AreBegun, IsOfLinks, bytes_for};
 
 use mot_base::{Links, NoMemory, Party, Place};
 use peer_streams::{PartyError, Run, send_each};
@@ -24,6 +24,8 @@ pub(crate) fn greet<L: Links>(
     requires me { me.0 < run.now.parties }
     ensures all { OnOk result
         (AreSent (L.sent links.old) (L.sent links.new) (bytes_for me.0 (hellos_from run.now me))) }
+    ensures some { OnErr result
+        (AreBegun (L.sent links.old) (L.sent links.new) (bytes_for me.0 (hellos_from run.now me))) }
     ensures placed { OnOk result (L.place links.new ≡ Some (place_in run.now me)) }
     ensures kind { IfErr result IsOfLinks }
     ensures fault { IsErrOf result PartyError.LinkFault →
@@ -57,6 +59,8 @@ pub(crate) fn send_ends<L: Links>(
     requires place { L.place links.old ≡ Some (place_in run.now me) }
     ensures all { OnOk result
         (AreSent (L.sent links.old) (L.sent links.new) (bytes_for me.0 (ends_for run.now))) }
+    ensures some { OnErr result
+        (AreBegun (L.sent links.old) (L.sent links.new) (bytes_for me.0 (ends_for run.now))) }
     ensures kind { IfErr result IsOfLinks }
     ensures fault { IsErrOf result PartyError.LinkFault →
         Rose (L.faults links.old) (L.faults links.new) }

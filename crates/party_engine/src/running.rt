@@ -1,6 +1,6 @@
 //! One party's run of a plan.
 
-ghost use Rattle.std.specs.Prelude.{◌≡◌, ◌<◌, ◌≤◌, List, length, slice_get, true, Option, Some, Err, IfOk, OnOk, OnErr, IfErr, IsErrOf};
+ghost use Rattle.std.specs.Prelude.{◌≡◌, ◌<◌, ◌≤◌, ◌^◌, List, length, slice_get, true, Option, Some, Err, IfOk, OnOk, OnErr, IfErr, IsErrOf};
 ghost use Rattle.mot_base.specs.Faults.{Rose};
 ghost use Rattle.mot_base.specs.Limits.{least_parties, most_parties};
 ghost use Rattle.mot_base.specs.Links.{ByParty};
@@ -19,8 +19,8 @@ ghost use Rattle.peer_streams.specs.Runs.{place_in, hellos_to, fresh_peers, HasH
 ghost use Rattle.peer_streams.specs.Taking.{IsAnswer, NamesPeer};
 ghost use Rattle.party_stages.specs.Following.{me_of, own_of, no_progress};
 ghost use Rattle.party_stages.specs.Scene.{IsScene, AreAllDone};
-ghost use Rattle.party_engine.specs.Run.{IsAsked, IsShort, run_of, IsRunOver, IsRefused, AreHonestPeers, KeepsNone};
-ghost use Rattle.party_engine.specs.Saying.{HasTalked};
+ghost use Rattle.party_engine.specs.Run.{IsAsked, IsShort, run_of, IsRunOver, IsRefused, AreHonestPeers, HasSentHonestly, KeepsNone};
+ghost use Rattle.party_engine.specs.Saying.{HasTalked, HasTalkedSome};
 
 use crate::greeting::{greet, send_ends};
 use crate::report::report;
@@ -65,8 +65,18 @@ pub fn run_party<L: Links, G: Turnstile + Sync, R: Threads + Sync>(
         IfOk result (IsReportOf brought.now.plan (me_of brought.now)
         (party_value brought.now.plan (me_of brought.now) (own_of brought.now) (column table (me_of brought.now)))
         (λ g round to. table g round (me_of brought.now) to)) }
+    // and what it has sent is an honest stream of the same run
+    ensures onward { (before sent : ByParty) (owns : List Own) (table : Payloads) → L.left links.old ≡ Some before →
+        L.sent links.old ≡ Some sent →
+        length owns ≡ brought.now.plan.parties → IsJoint brought.now.plan owns table →
+        slice_get owns (me_of brought.now) ≡ Some (own_of brought.now) →
+        AreHonestPeers brought.now (run_of brought.now circuit.now) table before →
+        OnOk result (HasSentHonestly brought.now (run_of brought.now circuit.now) table sent (L.sent links.new)) }
     ensures refused { (before : ByParty) → L.left links.old ≡ Some before →
         IfErr result (IsRefused brought.now (run_of brought.now circuit.now) before (L.left links.new) (L.closed links.new)) }
+    ensures begun { (before : ByParty) → L.left links.old ≡ Some before →
+        OnErr result (HasTalkedSome brought.now (run_of brought.now circuit.now) brought.now.own.me before
+        (L.left links.new) (L.sent links.old) (L.sent links.new)) }
     ensures few { (few : too_few.TooFew) → IsShort brought.now few → result ≡ Err (PartyError.TooFew few) }
     ensures names { IfErr result
         (NamesPeer (Some (place_in (run_of brought.now circuit.now) brought.now.own.me)) (L.closed links.new)) }
@@ -141,6 +151,10 @@ fn run_served<L: Links, G: Turnstile + Sync, R: Threads + Sync>(
         (L.sent links.old) (L.sent links.new)) }
     ensures refused { (before : ByParty) → L.left links.old ≡ Some before →
         IfErr result (IsRefused brought.now (run_of brought.now circuit.now) before (L.left links.new) (L.closed links.new)) }
+    ensures begun { (before : ByParty) → L.left links.old ≡ Some before →
+        OnErr result (HasTalkedSome brought.now (run_of brought.now circuit.now) brought.now.own.me before
+        (L.left links.new) (L.sent links.old) (L.sent links.new)) }
+    ensures numbers { ((run_of brought.now circuit.now).id < 2 ^ 64) × (length circuit.now ≡ 32) }
     ensures names { IfErr result
         (NamesPeer (Some (place_in (run_of brought.now circuit.now) brought.now.own.me)) (L.closed links.new)) }
     ensures fault { IsErrOf result PartyError.LinkFault →
@@ -181,7 +195,9 @@ fn run_served<L: Links, G: Turnstile + Sync, R: Threads + Sync>(
 
 /// The run, as the parties tell it to each other.
 fn run_of(brought: &Brought, circuit: &[u8; 32]) -> Run
-    ensures { result ≡ run_of brought.now circuit.now }
+    ensures value { result ≡ run_of brought.now circuit.now }
+    ensures id { result.id < 2 ^ 64 }
+    ensures circuit { length result.circuit ≡ 32 }
 {
     Run {
         parties: brought.plan.parties(),
@@ -254,6 +270,8 @@ fn converse<L: Links, G: Turnstile + Sync, R: Threads + Sync>(
     ensures scene { OnOk result (IsScene brought.now talk.new.inbox talk.new.stages) }
     ensures said { OnOk result
         (HasTalked run.now me (L.sent links.old) (L.sent links.new) talk.new.stages) }
+    ensures begun { (before : ByParty) → L.left links.old ≡ Some before →
+        OnErr result (HasTalkedSome brought.now run.now me before (L.left links.new) (L.sent links.old) (L.sent links.new)) }
     ensures shown { (before : ByParty) → L.left links.old ≡ Some before →
         IfErr result (IsAnswer before (L.left links.new) (L.closed links.new)
         (place_in run.now me) (hellos_to run.now me) talk.old.inbox.slots) }

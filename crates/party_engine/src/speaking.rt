@@ -6,9 +6,9 @@ ghost use Rattle.mot_base.specs.Faults.{Rose};
 ghost use Rattle.mot_base.specs.Links.{ByParty, IsOpen, IsKept, IsSame};
 ghost use Rattle.peer_streams.specs.Reading.{StillKeeps, KeepsOthers};
 ghost use Rattle.peer_streams.specs.Sending.{IsOfLinks};
-ghost use Rattle.peer_streams.specs.Taking.{ArePeers, HasTaken, HaveRead, hellos_of, IsAnswer, NamesPeer, events_left};
+ghost use Rattle.peer_streams.specs.Taking.{ArePeers, HasTaken, IsLeftOf, HaveRead, hellos_of, IsAnswer, NamesPeer, events_left};
 ghost use Rattle.party_stages.specs.Scene.{IsScene, AreAllDone};
-ghost use Rattle.party_engine.specs.Saying.{HasSaid, HasBegun, IsPlaceOf};
+ghost use Rattle.party_engine.specs.Saying.{HasSaid, HasBegun, HasSaidSome, IsPlaceOf};
 
 use crate::rest::run_rest;
 use crate::turn::run_turns;
@@ -56,8 +56,9 @@ pub(crate) fn speak<L: Links, G: Turnstile + Sync, R: Threads + Sync>(
         OnOk result (HasTaken before (L.left links.new) place talk.new.inbox talk.new.peers.items) }
     ensures said { (before : Option ByParty) → HasSaid before (L.sent links.old) talk.old.stages →
         OnOk result (HasSaid before (L.sent links.new) talk.new.stages) }
-    ensures begun { (before : Option ByParty) → HasSaid before (L.sent links.old) talk.old.stages →
-        OnErr result (HasBegun brought.now talk.new.inbox before (L.sent links.new)) }
+    ensures begun { (sent : Option ByParty) (before : ByParty) → HasSaid sent (L.sent links.old) talk.old.stages →
+        HasTaken before (L.left links.old) place talk.old.inbox talk.old.peers.items →
+        OnErr result (HasSaidSome brought.now place before (L.left links.new) sent (L.sent links.new)) }
     ensures shown { (before : ByParty) →
         HasTaken before (L.left links.old) place talk.old.inbox talk.old.peers.items →
         IfErr result (IsAnswer before (L.left links.new) (L.closed links.new) place
@@ -204,6 +205,7 @@ fn listen<L: Links>(
     ensures slots { inbox.new.slots ≡ inbox.old.slots }
     ensures still { StillKeeps inbox.old inbox.new }
     ensures others { KeepsOthers place inbox.old inbox.new }
+    ensures left { IsLeftOf (L.left links.old) (L.left links.new) }
     ensures buffer { length buffer.new ≡ length buffer.old }
     ensures place { L.place links.new ≡ L.place links.old }
     ensures sent { IsKept (L.sent links.old) (L.sent links.new) }

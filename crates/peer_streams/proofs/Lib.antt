@@ -6,6 +6,7 @@ pub mod Full
 pub mod Lists
 pub mod Counting
 pub mod Taken
+pub mod Left
 pub mod Sent
 pub mod Greeting
 pub mod Exchanged

@@ -36,6 +36,11 @@ abbrev pub AreTaken : ByParty → Option ByParty → ByParty → Type 0
 AreTaken before told taken =
     (left : ByParty) × (told ≡ Some left) × ((q : ℕ) → before q ≡ taken q ++ left q)
 
+-- where links tell what they have left of each party, they tell it still, and it is what was left behind first bytes of it
+abbrev pub IsLeftOf : Option ByParty → Option ByParty → Type 0
+IsLeftOf None after = Unit {0}
+IsLeftOf (Some left) after = (taken : ByParty) × AreTaken left after taken
+
 -- there is an entry for each party, in the order of their numbers; those that are closed have ended,
 -- and none has too many bytes
 pub record ArePeers (place : Place) (closed : ℕ → Bool) (peers : List PeerRead) : Type 0 where

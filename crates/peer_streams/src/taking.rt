@@ -5,7 +5,7 @@ ghost use Rattle.mot_base.specs.Limits.{peer_bytes};
 ghost use Rattle.mot_base.specs.Links.{ByParty, IsOpen, IsKept};
 ghost use Rattle.frames.specs.Reading.{has_ended};
 ghost use Rattle.peer_streams.specs.Reading.{PeerRead, StillKeeps, KeepsOthers};
-ghost use Rattle.peer_streams.specs.Taking.{ArePeers, HasTaken, HaveRead, hellos_of, IsAnswer, NamesPeer, HaveRoom, events_left};
+ghost use Rattle.peer_streams.specs.Taking.{ArePeers, HasTaken, IsLeftOf, HaveRead, hellos_of, IsAnswer, NamesPeer, HaveRoom, events_left};
 
 use crate::error::PartyError;
 use crate::peer::Peer;
@@ -48,6 +48,7 @@ pub fn take_event<L: Links>(
     ensures slots { inbox.new.slots ≡ inbox.old.slots }
     ensures still { StillKeeps inbox.old inbox.new }
     ensures others { KeepsOthers place inbox.old inbox.new }
+    ensures left { IsLeftOf (L.left links.old) (L.left links.new) }
     ensures place { L.place links.new ≡ L.place links.old }
     ensures sent { IsKept (L.sent links.old) (L.sent links.new) }
     ensures flushed { L.flushed links.new ≡ L.flushed links.old }
@@ -106,6 +107,7 @@ pub fn read_all<L: Links>(
     ensures slots { inbox.new.slots ≡ inbox.old.slots }
     ensures still { StillKeeps inbox.old inbox.new }
     ensures others { KeepsOthers place inbox.old inbox.new }
+    ensures left { IsLeftOf (L.left links.old) (L.left links.new) }
     ensures place { L.place links.new ≡ L.place links.old }
     ensures sent { IsKept (L.sent links.old) (L.sent links.new) }
     ensures flushed { L.flushed links.new ≡ L.flushed links.old }

@@ -1,12 +1,12 @@
--- Plans that have no gate of keys.
+-- Plans that have no gate of keys, and those that have none of a conversion.
 use Rattle.std.proofs.Common.{ℕ, zero, suc, ◌≡◌, ◌+◌, Bool, true, false, ◌||◌, List, [], ◌∷◌, take, Some, refl, sym, ◌∙◌, ap, ap₂}
 use Rattle.std.specs.Prelude.{slice_get}
 use Rattle.std.specs.List.{list_any}
 use Rattle.std.proofs.lemmas.Bool.{or_parts}
 use Rattle.std.proofs.lemmas.List.Folds.{list_any-append}
 use Rattle.mot_base.proofs.Lists.{same_some, take_next}
-use Rattle.plan_gates.specs.Gate.{Gate, is_of_keys}
-use Rattle.plan_gates.specs.Plan.{Gates, has_keys}
+use Rattle.plan_gates.specs.Gate.{Gate, is_of_keys, is_conversion}
+use Rattle.plan_gates.specs.Plan.{Gates, has_keys, has_conversions}
 
 -- ---- tests of a list, one place after another
 
@@ -39,3 +39,7 @@ none_there test (y ∷ ys) (suc n) x none there =
 pub unkeyed_at : (plan : Gates) (g : ℕ) (gate : Gate) → has_keys plan ≡ false → slice_get plan.gates g ≡ Some gate →
     is_of_keys gate.kind ≡ false
 unkeyed_at plan g gate none there = none_there (λ (gate : Gate). is_of_keys gate.kind) plan.gates g gate none there
+
+pub unconverted_at : (plan : Gates) (g : ℕ) (gate : Gate) → has_conversions plan ≡ false →
+    slice_get plan.gates g ≡ Some gate → is_conversion gate.kind ≡ false
+unconverted_at plan g gate none there = none_there (λ (gate : Gate). is_conversion gate.kind) plan.gates g gate none there

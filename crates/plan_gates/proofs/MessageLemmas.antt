@@ -1,6 +1,6 @@
 -- The messages of gates: which rounds there are, who hears, and how long payloads are.
 use Rattle.std.proofs.Common.{ℕ, zero, suc, ◌≡◌, ◌<◌, ◌≤◌, ◌+◌, ◌*◌, Bool, true, false, cond, ◌||◌, List, [], ◌∷◌, ◌++◌, length, take, filter, Option, Some, None, inl, inr, refl, sym, ◌∙◌, ap, ap₂, subst, arith, suc-mul}
-use Rattle.std.specs.Prelude.{slice_get, option_map, nat_lt}
+use Rattle.std.specs.Prelude.{slice_get, option_map, nat_lt, IfSome}
 use Rattle.std.specs.List.{list_any}
 use Rattle.std.specs.Option.{unwrap_or}
 use Rattle.std.proofs.lemmas.List.{length-append}
@@ -12,7 +12,7 @@ use Rattle.share_types.specs.Sums.{each}
 use Rattle.message_demux.specs.Slots.{IsShapeOf, vector_bytes}
 use Rattle.mot_base.proofs.Lists.{same_some, take_next, inside_of, before_at, last_at}
 use Rattle.plan_gates.specs.declared.message.Message.{Message}
-use Rattle.plan_gates.specs.Gate.{Kind, Gate, InA, MulA, OutA, InB, AndB, OutB, InOnline, Garble}
+use Rattle.plan_gates.specs.Gate.{Kind, Gate, InA, MulA, OutA, InB, AndB, OutB, InOnline, ShareAOnline, ShareBOnline, Garble, BToA, operands, low_width}
 use Rattle.plan_gates.specs.declared.draft.Sizes.{Sizes}
 use Rattle.plan_gates.specs.Plan.{Gates, sizes_of}
 use Rattle.plan_gates.specs.Messages.{words, vectors, messages_of, messages_at, message, are_two, hears, rounds, awaits, sent_in}
@@ -56,7 +56,10 @@ same_rounds (InB party k at) sizes f t = refl
 same_rounds (AndB x y) sizes f t = refl
 same_rounds (OutB x to) sizes f t = refl
 same_rounds (InOnline party k at m) sizes f t = refl
+same_rounds (ShareAOnline party x m) sizes f t = refl
+same_rounds (ShareBOnline party x m) sizes f t = refl
 same_rounds (Garble u v m) sizes f t = refl
+same_rounds (BToA x) sizes f t = refl
 same_rounds _ sizes f t = refl
 
 few_rounds : (kind : Kind) (sizes : Sizes) → length (messages_of kind sizes 0 0) ≤ 3
@@ -67,7 +70,10 @@ few_rounds (InB party k at) sizes = omega arith
 few_rounds (AndB x y) sizes = omega arith
 few_rounds (OutB x to) sizes = omega arith
 few_rounds (InOnline party k at m) sizes = omega arith
+few_rounds (ShareAOnline party x m) sizes = omega arith
+few_rounds (ShareBOnline party x m) sizes = omega arith
 few_rounds (Garble u v m) sizes = omega arith
+few_rounds (BToA x) sizes = omega arith
 few_rounds _ sizes = omega arith
 
 pub rounds_are_few : (plan : Gates) (g : ℕ) → rounds plan g ≤ 3
@@ -298,34 +304,46 @@ nothing_there : (m : Message) (round : ℕ) → unwrap_or (slice_get no_messages
 nothing_there m zero e = cc
 nothing_there m (suc round) e = cc
 
+-- what an entry sends
+entry_fits : (a b : Bool) (width round : ℕ) (m : Message) → 1 ≤ width → width ≤ most_width →
+    unwrap_or (slice_get (cond a (Some (vectors 1 width)) None ∷ cond b (Some (vectors 1 width)) None ∷ Some (words (2 * width)) ∷ []) round) None ≡ Some m →
+    Fits m
+entry_fits a b width round m some most e =
+    three_entries a b (vectors 1 width) (vectors 1 width) (words (2 * width)) m round
+    (few_vectors 1 width (omega arith) (omega arith) some most)
+    (few_vectors 1 width (omega arith) (omega arith) some most)
+    (few_words (2 * width) (omega arith) (omega arith)) e
+
 kind_fits : (kind : Kind) (sizes : Sizes) (f t r : ℕ) (m : Message) → 1 ≤ sizes.parties → sizes.parties ≤ most_parties →
-    1 ≤ sizes.width → sizes.width ≤ most_width →
+    1 ≤ sizes.width → sizes.width ≤ most_width → IfSome (slice_get (operands kind) 0) (λ x. 1 ≤ sizes.low) → sizes.low ≤ most_width →
     unwrap_or (slice_get (messages_of kind sizes f t) r) None ≡ Some m → Fits m
-kind_fits (InA party k) sizes f t r m parties few some most e = one_entry _ (words 1) m r (few_words 1 (omega arith) (omega arith)) e
-kind_fits (MulA x y) sizes f t r m parties few some most e = one_entry true (words 2) m r (few_words 2 (omega arith) (omega arith)) e
-kind_fits (OutA x to) sizes f t r m parties few some most e = one_entry _ (words 1) m r (few_words 1 (omega arith) (omega arith)) e
-kind_fits (InB party k at) sizes f t r m parties few some most e =
+kind_fits (InA party k) sizes f t r m parties few some most wide low e = one_entry _ (words 1) m r (few_words 1 (omega arith) (omega arith)) e
+kind_fits (MulA x y) sizes f t r m parties few some most wide low e = one_entry true (words 2) m r (few_words 2 (omega arith) (omega arith)) e
+kind_fits (OutA x to) sizes f t r m parties few some most wide low e = one_entry _ (words 1) m r (few_words 1 (omega arith) (omega arith)) e
+kind_fits (InB party k at) sizes f t r m parties few some most wide low e =
     one_entry _ (vectors 1 sizes.width) m r (few_vectors 1 sizes.width (omega arith) (omega arith) some most) e
-kind_fits (AndB x y) sizes f t r m parties few some most e =
+kind_fits (AndB x y) sizes f t r m parties few some most wide low e =
     one_entry true (vectors 2 sizes.width) m r (few_vectors 2 sizes.width (omega arith) (omega arith) some most) e
-kind_fits (OutB x to) sizes f t r m parties few some most e =
+kind_fits (OutB x to) sizes f t r m parties few some most wide low e =
     one_entry _ (vectors 1 sizes.width) m r (few_vectors 1 sizes.width (omega arith) (omega arith) some most) e
-kind_fits (InOnline party k at n) sizes f t r m parties few some most e =
-    three_entries _ _ (vectors 1 sizes.width) (vectors 1 sizes.width) (words (2 * sizes.width)) m r
-    (few_vectors 1 sizes.width (omega arith) (omega arith) some most)
-    (few_vectors 1 sizes.width (omega arith) (omega arith) some most)
-    (few_words (2 * sizes.width) (omega arith) (omega arith)) e
-kind_fits (Garble u v n) sizes f t r m parties few some most e =
+kind_fits (InOnline party k at n) sizes f t r m parties few some most wide low e = entry_fits _ _ sizes.width r m some most e
+kind_fits (ShareAOnline party x n) sizes f t r m parties few some most wide low e = entry_fits _ _ sizes.width r m some most e
+kind_fits (ShareBOnline party x n) sizes f t r m parties few some most wide low e = entry_fits _ _ sizes.width r m some most e
+kind_fits (Garble u v n) sizes f t r m parties few some most wide low e =
     three_entries true true (vectors 2 sizes.width) (vectors 1 sizes.width) (words (8 * sizes.parties * sizes.width)) m r
     (few_vectors 2 sizes.width (omega arith) (omega arith) some most)
     (few_vectors 1 sizes.width (omega arith) (omega arith) some most)
     (few_keys sizes.parties sizes.width parties few some most) e
-kind_fits _ sizes f t r m parties few some most e = nothing_there m r e
+kind_fits (BToA x) sizes f t r m parties few some most wide low e =
+    one_entry true (vectors 1 sizes.low) m r (few_vectors 1 sizes.low (omega arith) (omega arith) wide low) e
+kind_fits _ sizes f t r m parties few some most wide low e = nothing_there m r e
 
 pub gate_fits : (plan : Gates) (gate : Gate) (f t r : ℕ) (m : Message) → 1 ≤ plan.parties → plan.parties ≤ most_parties →
     1 ≤ gate.width → gate.width ≤ most_width →
+    IfSome (slice_get (operands gate.kind) 0) (λ x. 1 ≤ low_width plan.gates gate.kind) → low_width plan.gates gate.kind ≤ most_width →
     unwrap_or (slice_get (messages_at plan (Some gate) f t) r) None ≡ Some m → Fits m
-gate_fits plan gate f t r m parties few some most e = kind_fits gate.kind (sizes_of plan gate) f t r m parties few some most e
+gate_fits plan gate f t r m parties few some most wide low e =
+    kind_fits gate.kind (sizes_of plan gate) f t r m parties few some most wide low e
 
 -- ---- output gates, one after another
 

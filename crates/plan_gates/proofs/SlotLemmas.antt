@@ -22,6 +22,7 @@ use Rattle.plan_gates.specs.declared.message.Message.{Message}
 use Rattle.plan_gates.specs.Gate.{Gate}
 use Rattle.plan_gates.specs.Plan.{Gates, IsPlan}
 use Rattle.plan_gates.specs.Messages.{message, messages_at, spec_of, slot_list, slots_in, slots_from, rounds, AreSlotsTo}
+use Rattle.plan_gates.proofs.NeedsLemmas.{low-most, low-some}
 use Rattle.plan_gates.proofs.MessageLemmas.{Fits, IsSent, gate_fits, is_sent, sent_parts, rounds_are_few}
 
 -- the messages of the senders below a number
@@ -283,7 +284,8 @@ message_fits plan valid from to g round m e =
     fits (Some gate) there e =
         let is = valid.each g gate there in
         let some = valid.some_parties in
-        gate_fits plan gate from to round m (omega arith) valid.most_parties is.some_width is.in_width e
+        gate_fits plan gate from to round m (omega arith) valid.most_parties is.some_width is.in_width
+        (low-some plan valid g gate is) (low-most plan valid gate.kind) e
 
 tied : (o : Ordering) → is_eq o ≡ true → o ≡ Equal
 tied Less t = cc

@@ -32,6 +32,8 @@ pub data Kind : Type 0 where
   SliceMask : (u at : ℕ) → Kind
   JoinMask : (u v : ℕ) → Kind
   InOnline : (party k at m : ℕ) → Kind
+  ShareAOnline : (party x m : ℕ) → Kind
+  ShareBOnline : (party x m : ℕ) → Kind
   ZeroOnline : Kind
   XorOnline : (u v : ℕ) → Kind
   SliceOnline : (u at : ℕ) → Kind
@@ -39,6 +41,7 @@ pub data Kind : Type 0 where
   Garble : (u v m : ℕ) → Kind
   EvalY : (t u v : ℕ) → Kind
   YToB : (m o : ℕ) → Kind
+  BToA : (x : ℕ) → Kind
 
 -- a gate: what it does, and the width of its value. An output gate has the width of its operand
 pub record Gate : Type 0 where
@@ -73,6 +76,8 @@ kind_of (code.FlipMask u c) = FlipMask u c.word
 kind_of (code.SliceMask u at width) = SliceMask u at
 kind_of (code.JoinMask u v) = JoinMask u v
 kind_of (code.InOnline party k at m) = InOnline party.0 k at m
+kind_of (code.ShareAOnline party x m) = ShareAOnline party.0 x m
+kind_of (code.ShareBOnline party x m) = ShareBOnline party.0 x m
 kind_of (code.ZeroOnline width) = ZeroOnline
 kind_of (code.XorOnline u v) = XorOnline u v
 kind_of (code.SliceOnline u at width) = SliceOnline u at
@@ -80,6 +85,7 @@ kind_of (code.JoinOnline u v) = JoinOnline u v
 kind_of (code.Garble u v m) = Garble u v m
 kind_of (code.EvalY t u v) = EvalY t u v
 kind_of (code.YToB m o) = YToB m o
+kind_of (code.BToA x) = BToA x
 
 -- the width that a kind states, if it states one
 abbrev pub stated_width : GateKind → Option ℕ
@@ -129,6 +135,8 @@ gives (FlipMask u c) = Mask
 gives (SliceMask u at) = Mask
 gives (JoinMask u v) = Mask
 gives (InOnline party k at m) = Online
+gives (ShareAOnline party x m) = Online
+gives (ShareBOnline party x m) = Online
 gives ZeroOnline = Online
 gives (XorOnline u v) = Online
 gives (SliceOnline u at) = Online
@@ -136,8 +144,16 @@ gives (JoinOnline u v) = Online
 gives (Garble u v m) = Table
 gives (EvalY t u v) = Online
 gives (YToB m o) = Vector
+gives (BToA x) = Word
 
--- whether a gate is one of those that wires shared as keys have
+-- whether a gate enters a party's share of a value behind a mask, or makes a word of a vector
+abbrev pub is_conversion : Kind → Bool
+is_conversion (ShareAOnline party x m) = true
+is_conversion (ShareBOnline party x m) = true
+is_conversion (BToA x) = true
+is_conversion _ = false
+
+-- whether a gate is one of those that wires shared as keys have, or that a conversion has
 abbrev pub is_of_keys : Kind → Bool
 is_of_keys KeyMask = true
 is_of_keys (ConstMask c) = true
@@ -146,6 +162,8 @@ is_of_keys (FlipMask u c) = true
 is_of_keys (SliceMask u at) = true
 is_of_keys (JoinMask u v) = true
 is_of_keys (InOnline party k at m) = true
+is_of_keys (ShareAOnline party x m) = true
+is_of_keys (ShareBOnline party x m) = true
 is_of_keys ZeroOnline = true
 is_of_keys (XorOnline u v) = true
 is_of_keys (SliceOnline u at) = true
@@ -153,6 +171,7 @@ is_of_keys (JoinOnline u v) = true
 is_of_keys (Garble u v m) = true
 is_of_keys (EvalY t u v) = true
 is_of_keys (YToB m o) = true
+is_of_keys (BToA x) = true
 is_of_keys _ = false
 
 -- an operand of a gate: what it is, and the number of the gate that gives it
@@ -200,6 +219,8 @@ uses (FlipMask u c) = mask u ∷ []
 uses (SliceMask u at) = mask u ∷ []
 uses (JoinMask u v) = mask u ∷ mask v ∷ []
 uses (InOnline party k at m) = mask m ∷ []
+uses (ShareAOnline party x m) = word x ∷ mask m ∷ []
+uses (ShareBOnline party x m) = vector x ∷ mask m ∷ []
 uses ZeroOnline = []
 uses (XorOnline u v) = online u ∷ online v ∷ []
 uses (SliceOnline u at) = online u ∷ []
@@ -207,18 +228,21 @@ uses (JoinOnline u v) = online u ∷ online v ∷ []
 uses (Garble u v m) = mask u ∷ mask v ∷ mask m ∷ []
 uses (EvalY t u v) = table t ∷ online u ∷ online v ∷ []
 uses (YToB m o) = mask m ∷ online o ∷ []
+uses (BToA x) = vector x ∷ []
 
 -- the gates of the operands, in order
 abbrev pub operands : Kind → List ℕ
 operands kind = map (λ used. used.gate) (uses kind)
 
--- the party that a gate names: whose input it is, or who alone is told
+-- the party that a gate names: whose input or share it is, or who alone is told
 abbrev pub party_of : Kind → Option ℕ
 party_of (InA party k) = Some party
 party_of (InB party k at) = Some party
 party_of (OutA x to) = party_told to
 party_of (OutB x to) = party_told to
 party_of (InOnline party k at m) = Some party
+party_of (ShareAOnline party x m) = Some party
+party_of (ShareBOnline party x m) = Some party
 party_of _ = None
 
 -- who is told the value of a gate, if it is an output

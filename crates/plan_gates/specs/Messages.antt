@@ -9,7 +9,7 @@ use Rattle.message_demux.specs.declared.slots.SlotSpec.{SlotSpec}
 use Rattle.message_demux.specs.declared.slots.Shape.TheVariants.{Words, Vectors}
 use Rattle.message_demux.specs.Slots.{listed, slot_at, vector_bytes, IsSlotList}
 use Rattle.plan_gates.specs.declared.message.Message.{Message}
-use Rattle.plan_gates.specs.Gate.{Kind, Gate, InA, MulA, OutA, InB, AndB, OutB, InOnline, Garble, receiver_of}
+use Rattle.plan_gates.specs.Gate.{Kind, Gate, InA, MulA, OutA, InB, AndB, OutB, InOnline, ShareAOnline, ShareBOnline, Garble, BToA, receiver_of}
 use Rattle.plan_gates.specs.declared.draft.Sizes.{Sizes}
 use Rattle.plan_gates.specs.Plan.{Gates, sizes_of}
 
@@ -45,7 +45,10 @@ messages_of (AndB x y) sizes from to = Some (vectors 2 sizes.width) ∷ []
 messages_of (OutB x receiver) sizes from to =
     (if includes receiver to then Some (vectors 1 sizes.width) else None) ∷ []
 messages_of (InOnline party k at m) sizes from to = entry_messages party sizes.width from to
+messages_of (ShareAOnline party x m) sizes from to = entry_messages party sizes.width from to
+messages_of (ShareBOnline party x m) sizes from to = entry_messages party sizes.width from to
 messages_of (Garble u v m) sizes from to = table_messages sizes.parties sizes.width
+messages_of (BToA x) sizes from to = Some (vectors 1 sizes.low) ∷ []
 messages_of _ sizes from to = []
 
 abbrev pub messages_at : Gates → Option Gate → ℕ → ℕ → List (Option Message)

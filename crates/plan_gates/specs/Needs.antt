@@ -4,17 +4,18 @@ use Rattle.share_types.specs.declared.needs.Needs.{Needs}
 use Rattle.share_types.specs.declared.needs.Kind as stock
 use Rattle.share_types.specs.Needs.{count_of, no_needs, sum_of_needs}
 use Rattle.share_types.specs.Sums.{each}
-use Rattle.plan_gates.specs.Gate.{Kind, Gate, MulA, AndB, KeyMask, Garble}
+use Rattle.plan_gates.specs.Gate.{Kind, Gate, MulA, AndB, KeyMask, Garble, BToA}
 use Rattle.plan_gates.specs.declared.draft.Sizes.{Sizes}
 use Rattle.plan_gates.specs.Plan.{Gates, sizes_of}
 
 -- what a gate needs: one triple for a product, a bit triple for each bit of an AND, a key record for each bit of a fresh
--- mask, and both for each bit of a garbled table
+-- mask, both for each bit of a garbled table, and a shared bit for each bit of a vector that becomes a word
 abbrev pub needs_of : Kind → Sizes → Needs
 needs_of (MulA x y) sizes = record no_needs { mult = 1 }
 needs_of (AndB x y) sizes = record no_needs { bit = sizes.width }
 needs_of KeyMask sizes = record no_needs { key = sizes.width }
 needs_of (Garble u v m) sizes = record no_needs { bit = sizes.width; key = sizes.width }
+needs_of (BToA x) sizes = record no_needs { shared = sizes.low }
 needs_of _ sizes = no_needs
 
 -- what the gate at a place needs, if there is one

@@ -1,12 +1,12 @@
 -- What a plan computes in plain: one number for each gate. A wire that is shared as keys has two gates, and its number is
 -- the XOR of theirs: a mask has the bits that were set or flipped, and 0 where it is fresh, and masked bits have what was
 -- entered or computed.
-use Rattle.std.specs.Prelude.{ℕ, zero, suc, ◌+◌, ◌*◌, ◌/◌, ◌%◌, ◌^◌, Bool, List, [], ◌∷◌, ◌++◌, length, slice_get, slice_index, Option, Some, None, bit_and, bit_xor}
+use Rattle.std.specs.Prelude.{ℕ, zero, suc, ◌≡◌, ◌+◌, ◌*◌, ◌/◌, ◌%◌, ◌^◌, Bool, List, [], ◌∷◌, ◌++◌, length, slice_get, slice_index, Option, Some, None, bit_and, bit_xor}
 use Rattle.share_types.specs.declared.receiver.Receiver.{Receiver}
 use Rattle.share_types.specs.Bits.{bits}
-use Rattle.share_types.specs.Sums.{word_difference}
-use Rattle.plan_gates.specs.Gate.{Kind, Gate, InA, ConstA, AddA, SubA, AddConstA, MulConstA, MulA, OutA, InB, ConstB, XorB, XorConstB, SliceB, JoinB, AndB, OutB, KeyMask, ConstMask, XorMask, FlipMask, SliceMask, JoinMask, InOnline, ZeroOnline, XorOnline, SliceOnline, JoinOnline, Garble, EvalY, YToB, operands, receiver_of, low_width}
-use Rattle.plan_gates.specs.Plan.{Gates}
+use Rattle.share_types.specs.Sums.{word_difference, sum_to, xor_to}
+use Rattle.plan_gates.specs.Gate.{Kind, Gate, InA, ConstA, AddA, SubA, AddConstA, MulConstA, MulA, OutA, InB, ConstB, XorB, XorConstB, SliceB, JoinB, AndB, OutB, KeyMask, ConstMask, XorMask, FlipMask, SliceMask, JoinMask, InOnline, ShareAOnline, ShareBOnline, ZeroOnline, XorOnline, SliceOnline, JoinOnline, Garble, EvalY, YToB, BToA, operands, receiver_of, low_width}
+use Rattle.plan_gates.specs.Plan.{Gates, StandsAt}
 
 -- what comes from outside: the numbers of the circuit's inputs, and of a value of which each party enters a part of its
 -- own, these parts, by party and by the gate of the value
@@ -55,6 +55,8 @@ number_of (FlipMask x c) v = bit_xor v.x c
 number_of (SliceMask x at) v = v.x / 2 ^ at
 number_of (JoinMask x y) v = v.x + 2 ^ v.low * v.y
 number_of (InOnline party k at m) v = slice_index v.outside.inputs k / 2 ^ at
+number_of (ShareAOnline party x m) v = v.outside.parts party x
+number_of (ShareBOnline party x m) v = v.outside.parts party x
 number_of ZeroOnline v = 0
 number_of (XorOnline x y) v = bit_xor v.x v.y
 number_of (SliceOnline x at) v = v.x / 2 ^ at
@@ -62,6 +64,7 @@ number_of (JoinOnline x y) v = v.x + 2 ^ v.low * v.y
 number_of (Garble x y m) v = 0
 number_of (EvalY t x y) v = bit_and (bit_xor v.y v.left) (bit_xor v.z v.right)
 number_of (YToB m o) v = bit_xor v.x v.y
+number_of (BToA x) v = v.x
 
 -- the number of the gate at the place of an operand, if there is one
 abbrev pub operand_number : List ℕ → Option ℕ → ℕ
@@ -106,6 +109,14 @@ plain_before gates outside (suc g) =
 -- the numbers of all gates of a plan
 abbrev pub plain_numbers : Gates → Outside → List ℕ
 plain_numbers plan outside = plain_before plan.gates outside (length plan.gates)
+
+-- the parts of each value that the parties enter recombine to its number: by sum where it is a word, and by XOR where it is
+-- a vector
+pub record AreLawful (plan : Gates) (outside : Outside) (numbers : List ℕ) : Type 0 where
+  pub words : (o party x m w : ℕ) → StandsAt plan.gates o (ShareAOnline party x m) w →
+      sum_to plan.parties (λ p. outside.parts p x) % 2 ^ 64 ≡ slice_index numbers x
+  pub vectors : (o party x m w : ℕ) → StandsAt plan.gates o (ShareBOnline party x m) w →
+      xor_to plan.parties (λ p. outside.parts p x) % 2 ^ w ≡ slice_index numbers x
 
 -- what an output gate tells: who is told, and the bits
 pub record GateTold : Type 0 where

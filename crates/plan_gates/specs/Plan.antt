@@ -3,7 +3,7 @@ use Rattle.std.specs.Prelude.{ℕ, ◌≡◌, ◌<◌, ◌≤◌, ◌+◌, ◌^�
 use Rattle.std.specs.List.{AllByRecursion, list_any}
 use Rattle.mot_base.specs.Limits.{least_parties, most_parties, most_width, most_gates}
 use Rattle.plan_gates.specs.declared.draft.Sizes.{Sizes}
-use Rattle.plan_gates.specs.Gate.{Kind, Gate, Use, Word, SliceB, JoinB, KeyMask, ConstMask, XorMask, FlipMask, SliceMask, JoinMask, InOnline, ZeroOnline, XorOnline, SliceOnline, JoinOnline, Garble, EvalY, YToB, gate_of, is_of_keys, gives, uses, operands, party_of, constant_of, width_at, low_width}
+use Rattle.plan_gates.specs.Gate.{Kind, Gate, Use, Word, SliceB, JoinB, KeyMask, ConstMask, XorMask, FlipMask, SliceMask, JoinMask, InOnline, ShareAOnline, ShareBOnline, ZeroOnline, XorOnline, SliceOnline, JoinOnline, Garble, EvalY, YToB, BToA, gate_of, is_of_keys, is_conversion, gives, uses, operands, party_of, constant_of, width_at, low_width}
 
 -- the gates that so many parties run, of which each stands behind those whose values it uses
 pub record Gates : Type 0 where
@@ -19,8 +19,8 @@ abbrev pub IsOperand : List Gate → ℕ → Use → Type 0
 IsOperand gates g used =
     (used.gate < g) × (gate : Gate) × (slice_get gates used.gate ≡ Some gate) × (gives gate.kind ≡ used.given)
 
--- the widths of the operands fit the width of the value: a slice lies within its operand, a join has the bits of both,
--- and all else is as wide as each operand
+-- the widths of the operands fit the width of the value: a slice lies within its operand, a join has the bits of both, a
+-- word is made of any vector, and all else is as wide as each operand
 abbrev pub FitWidths : Kind → ℕ → List ℕ → Type 0
 FitWidths (SliceB x at) width widths = AllByRecursion (λ w. at + width ≤ w) widths
 FitWidths (SliceMask x at) width widths = AllByRecursion (λ w. at + width ≤ w) widths
@@ -28,6 +28,7 @@ FitWidths (SliceOnline x at) width widths = AllByRecursion (λ w. at + width ≤
 FitWidths (JoinB x y) width (low ∷ high ∷ []) = width ≡ low + high
 FitWidths (JoinMask x y) width (low ∷ high ∷ []) = width ≡ low + high
 FitWidths (JoinOnline x y) width (low ∷ high ∷ []) = width ≡ low + high
+FitWidths (BToA x) width widths = Unit {0}
 FitWidths kind width widths = AllByRecursion (λ w. w ≡ width) widths
 
 -- ---- wires that are shared as keys
@@ -36,10 +37,14 @@ FitWidths kind width widths = AllByRecursion (λ w. w ≡ width) widths
 abbrev pub StandsAt : List Gate → ℕ → Kind → ℕ → Type 0
 StandsAt gates g kind width = slice_get gates g ≡ Some (gate_of kind width)
 
--- a mask and masked bits that are one wire: a value that is entered behind a fresh mask, a constant, the result of an
--- operation that both make of wires, a flip, of which the mask alone knows, or the result of a garbled AND
+-- a mask and masked bits that are one wire: an input or a party's share that is entered behind a fresh mask, a constant, the
+-- result of an operation that both make of wires, a flip, of which the mask alone knows, or the result of a garbled AND
 pub data IsWire (gates : List Gate) : ℕ → ℕ → Type 0 where
   enters : (m o w party k at : ℕ) → StandsAt gates m KeyMask w → StandsAt gates o (InOnline party k at m) w → IsWire gates m o
+  enters_word : (m o w party x : ℕ) → StandsAt gates m KeyMask w → StandsAt gates o (ShareAOnline party x m) w →
+      IsWire gates m o
+  enters_vector : (m o w party x : ℕ) → StandsAt gates m KeyMask w → StandsAt gates o (ShareBOnline party x m) w →
+      IsWire gates m o
   stays : (m o w c : ℕ) → StandsAt gates m (ConstMask c) w → StandsAt gates o ZeroOnline w → IsWire gates m o
   flips : (m o w u c : ℕ) → StandsAt gates m (FlipMask u c) w → IsWire gates u o → IsWire gates m o
   xors : (m o w u v a b : ℕ) → StandsAt gates m (XorMask u v) w → StandsAt gates o (XorOnline a b) w →
@@ -69,6 +74,8 @@ pub record IsTableOf (gates : List Gate) (t a b : ℕ) : Type 0 where
 -- evaluated are the wires of the table, and what becomes a vector is a wire
 abbrev pub ArePaired : List Gate → Kind → Type 0
 ArePaired gates (InOnline party k at m) = IsFresh gates m
+ArePaired gates (ShareAOnline party x m) = IsFresh gates m
+ArePaired gates (ShareBOnline party x m) = IsFresh gates m
 ArePaired gates (Garble u v m) = IsFresh gates m
 ArePaired gates (EvalY t a b) = IsTableOf gates t a b
 ArePaired gates (YToB m o) = IsWire gates m o
@@ -102,6 +109,9 @@ with_gate plan gate = record plan { gates = plan.gates ++ gate ∷ [] }
 abbrev pub with_gates : Gates → List Gate → Gates
 with_gates plan more = record plan { gates = plan.gates ++ more }
 
--- whether a plan has a gate of keys
+-- whether a plan has a gate of keys, and whether it has one of a conversion
 abbrev pub has_keys : Gates → Bool
 has_keys plan = list_any (λ gate. is_of_keys gate.kind) plan.gates
+
+abbrev pub has_conversions : Gates → Bool
+has_conversions plan = list_any (λ gate. is_conversion gate.kind) plan.gates

@@ -1,5 +1,5 @@
 ghost use Rattle.std.specs.Prelude.{◌≡◌, Some, None, slice_get};
-ghost use Rattle.plan_gates.specs.Gate.{kind_of, operands, receiver_of, is_of_keys};
+ghost use Rattle.plan_gates.specs.Gate.{kind_of, operands, receiver_of, is_of_keys, is_conversion};
 ghost use Rattle.plan_gates.specs.Operands.{listed};
 
 use mot_base::Party;
@@ -127,6 +127,18 @@ pub enum GateKind {
         at: u32,
         m: u32,
     },
+    /// A party's share of the word `x`, which is shared by sum, behind the mask `m`, with a key for each bit.
+    ShareAOnline {
+        party: Party,
+        x: u32,
+        m: u32,
+    },
+    /// A party's share of the vector `x`, which is shared by XOR, behind the mask `m`, with a key for each bit.
+    ShareBOnline {
+        party: Party,
+        x: u32,
+        m: u32,
+    },
     /// The masked bits of a constant: zeros.
     ZeroOnline {
         width: u8,
@@ -165,6 +177,10 @@ pub enum GateKind {
         m: u32,
         o: u32,
     },
+    /// The number of the vector `x` as a word, which needs a shared bit for each bit of `x`.
+    BToA {
+        x: u32,
+    },
 }
 
 /// The operands of a gate in order, of which there are at most three.
@@ -193,6 +209,9 @@ impl GateKind {
             | GateKind::XorOnline { u, v }
             | GateKind::JoinOnline { u, v } => first_two(Some(u), Some(v)),
             GateKind::YToB { m, o } => first_two(Some(m), Some(o)),
+            GateKind::ShareAOnline { x, m, .. } | GateKind::ShareBOnline { x, m, .. } => {
+                first_two(Some(x), Some(m))
+            }
             GateKind::Garble { u, v, m } => three(u, v, m),
             GateKind::EvalY { t, u, v } => three(t, u, v),
             GateKind::AddConstA { x, .. }
@@ -200,7 +219,8 @@ impl GateKind {
             | GateKind::OutA { x, .. }
             | GateKind::XorConstB { x, .. }
             | GateKind::SliceB { x, .. }
-            | GateKind::OutB { x, .. } => first_two(Some(x), None),
+            | GateKind::OutB { x, .. }
+            | GateKind::BToA { x } => first_two(Some(x), None),
             GateKind::FlipMask { u, .. }
             | GateKind::SliceMask { u, .. }
             | GateKind::SliceOnline { u, .. } => first_two(Some(u), None),
@@ -225,7 +245,18 @@ impl GateKind {
         }
     }
 
-    /// Whether a gate is one of those that wires shared as keys have.
+    /// Whether a gate enters a party's share of a value behind a mask, or makes a word of a vector.
+    pub fn is_conversion(self) -> bool
+        ensures { result ≡ is_conversion (kind_of self) }
+    {
+        match self {
+            GateKind::ShareAOnline { .. } | GateKind::ShareBOnline { .. } | GateKind::BToA { .. } =>
+                true,
+            _ => false,
+        }
+    }
+
+    /// Whether a gate is one of those that wires shared as keys have, or that a conversion has.
     pub fn is_of_keys(self) -> bool
         ensures { result ≡ is_of_keys (kind_of self) }
     {
@@ -244,7 +275,7 @@ impl GateKind {
             | GateKind::Garble { .. }
             | GateKind::EvalY { .. }
             | GateKind::YToB { .. } => true,
-            _ => false,
+            _ => self.is_conversion(),
         }
     }
 }

@@ -58,8 +58,12 @@ pub fn rounds_of(kind: GateKind, sizes: Sizes) -> u8
         | GateKind::OutA { .. }
         | GateKind::InB { .. }
         | GateKind::AndB { .. }
-        | GateKind::OutB { .. } => 1,
-        GateKind::InOnline { .. } | GateKind::Garble { .. } => 3,
+        | GateKind::OutB { .. }
+        | GateKind::BToA { .. } => 1,
+        GateKind::InOnline { .. }
+        | GateKind::ShareAOnline { .. }
+        | GateKind::ShareBOnline { .. }
+        | GateKind::Garble { .. } => 3,
         _ => 0,
     }
 }
@@ -75,7 +79,11 @@ pub fn message_in(
     ensures { result ≡ unwrap_or (slice_get (messages_of (kind_of kind) sizes from.0 to.0) round) None }
 {
     match kind {
-        GateKind::InOnline { party, .. } => entry_message(party, sizes.width, from, to, round),
+        GateKind::InOnline { party, .. }
+        | GateKind::ShareAOnline { party, .. }
+        | GateKind::ShareBOnline { party, .. } => {
+            entry_message(party, sizes.width, from, to, round)
+        }
         GateKind::Garble { .. } => table_message(sizes, round),
         _ if round > 0 => None,
         GateKind::InA { party, .. } if from == party => Some(words(1)),
@@ -86,6 +94,7 @@ pub fn message_in(
         GateKind::OutB { to: receiver, .. } if receiver.includes(to) => {
             Some(vectors(1, sizes.width))
         }
+        GateKind::BToA { .. } => Some(vectors(1, sizes.low)),
         _ => None,
     }
 }

@@ -25,6 +25,10 @@ pub fn needs_of(kind: GateKind, sizes: Sizes) -> Needs
             ..Needs::none()
         },
         GateKind::Garble { .. } => table_needs(sizes),
+        GateKind::BToA { .. } => Needs {
+            shared: u32::from(sizes.low),
+            ..Needs::none()
+        },
         _ => Needs::none(),
     }
 }

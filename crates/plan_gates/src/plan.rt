@@ -1,6 +1,6 @@
 ghost use Rattle.std.specs.Prelude.{◌≡◌, ◌<◌, ◌≤◌, length, slice_get, option_map, Some, IfOk, IfSome};
 ghost use Rattle.plan_gates.specs.Gate.{kind_of, stated_width};
-ghost use Rattle.plan_gates.specs.Plan.{IsPlan, has_keys};
+ghost use Rattle.plan_gates.specs.Plan.{IsPlan, has_keys, has_conversions};
 ghost use Rattle.plan_gates.specs.Needs.{needs_at, offset, offsets_of, all_needs};
 
 use crate::draft::Draft;
@@ -79,12 +79,24 @@ impl Plan {
         self.draft.width(gate)
     }
 
-    /// Whether some gate is one of those that wires shared as keys have. It looks at each gate.
+    /// Whether some gate is one of those that wires shared as keys have, or that a conversion has. It looks at each gate.
     pub fn has_keys(&self) -> bool
         ensures { result ≡ has_keys self.now }
     {
         for gate in 0..self.gates() {
             if self.gate(gate).is_of_keys() {
+                return true;
+            }
+        }
+        false
+    }
+
+    /// Whether some gate is one that a conversion has. It looks at each gate.
+    pub fn has_conversions(&self) -> bool
+        ensures { result ≡ has_conversions self.now }
+    {
+        for gate in 0..self.gates() {
+            if self.gate(gate).is_conversion() {
                 return true;
             }
         }

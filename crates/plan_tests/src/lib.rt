@@ -4,6 +4,8 @@
 #[cfg(test)]
 mod bristol;
 #[cfg(test)]
+mod conversions;
+#[cfg(test)]
 mod keys;
 #[cfg(test)]
 mod plans;

@@ -1,6 +1,6 @@
 //! The plans of some circuits, and how many gates others have.
 use circuit_values::Receiver;
-use gate_plan::{GateKind, Plan, PlanError, Shape, SlotSpec, lower_mixed, lowered_gates};
+use gate_plan::{GateKind, Plan, Shape, SlotSpec, lower_mixed, lowered_gates};
 use mixed_circuit::{Mixed, read_mixed};
 use mot_base::{MAX_FILE_LENGTH, Party};
 use share_types::{Bits, Needs};
@@ -247,78 +247,51 @@ fn stages_wait_for_the_rounds_in_which_a_party_receives(rt: HostRuntime) {
     assert!(rt; is_planned);
 }
 
-/// Circuits, the number of their gates, and whether they are lowered.
-static COUNTS: [(&[u8], u64, bool); 11] = [
-    (b"mixed 1\nparties 2\n", 0, true),
-    (
-        b"mixed 1\nparties 2\nx = input 0 A\noutput x all\n",
-        2,
-        true,
-    ),
-    (
-        b"mixed 1\nparties 2\nx = input 0 A\ny = a2y x\n",
-        1078,
-        false,
-    ),
-    (
-        b"mixed 1\nparties 3\nx = input 0 A\ny = a2b x\n",
-        2154,
-        false,
-    ),
-    (
-        b"mixed 1\nparties 8\nx = input 0 A\ny = a2y x\n",
-        7528,
-        false,
-    ),
-    (
-        b"mixed 1\nparties 3\nx = input 0 B 7\ny = b2y x\n",
-        11,
-        false,
-    ),
-    (b"mixed 1\nparties 3\nx = input 0 Y 7\ny = y2b x\n", 3, true),
-    (
-        b"mixed 1\nparties 3\nx = input 0 B 7\ny = b2a x\n",
-        2,
-        false,
-    ),
+/// Circuits, and the number of their gates.
+static COUNTS: [(&[u8], u64); 11] = [
+    (b"mixed 1\nparties 2\n", 0),
+    (b"mixed 1\nparties 2\nx = input 0 A\noutput x all\n", 2),
+    (b"mixed 1\nparties 2\nx = input 0 A\ny = a2y x\n", 1078),
+    (b"mixed 1\nparties 3\nx = input 0 A\ny = a2b x\n", 2154),
+    (b"mixed 1\nparties 8\nx = input 0 A\ny = a2y x\n", 7528),
+    (b"mixed 1\nparties 3\nx = input 0 B 7\ny = b2y x\n", 11),
+    (b"mixed 1\nparties 3\nx = input 0 Y 7\ny = y2b x\n", 3),
+    (b"mixed 1\nparties 3\nx = input 0 B 7\ny = b2a x\n", 2),
     (
         b"mixed 1\nparties 3\nx = input 0 Y 7\ny = y2a x\noutput x all\n",
         6,
-        false,
     ),
     (
         b"mixed 1\nparties 3\nx = input 0 Y 7\ny = not x\nz = and x y\n",
         6,
-        true,
     ),
     (
         b"mixed 1\nparties 3\nx = const Y 7 1\ny = xor x x\nz = slice x 1 2\nw = join x z\n",
         8,
-        true,
     ),
 ];
 
-/// Whether a circuit is lowered to so many gates, or cannot be lowered yet.
-fn is_lowered_to(alloc: Global, circuit: &Mixed, gates: u64, is_lowered: bool) -> bool {
+/// Whether a circuit is lowered to so many gates.
+fn is_lowered_to(alloc: Global, circuit: &Mixed, gates: u64) -> bool {
     match lower_mixed(alloc, circuit) {
-        Ok(plan) => is_lowered && u64::from(plan.gates()) == gates,
-        Err(cause) => !is_lowered && cause == PlanError::NotBuilt,
+        Ok(plan) => u64::from(plan.gates()) == gates,
+        Err(_) => false,
     }
 }
 
-fn is_counted(alloc: Global, text: &[u8], gates: u64, is_lowered: bool) -> bool {
+fn is_counted(alloc: Global, text: &[u8], gates: u64) -> bool {
     match circuit_of(alloc, text) {
         Some(circuit) => {
-            lowered_gates(&circuit) == gates && is_lowered_to(alloc, &circuit, gates, is_lowered)
+            lowered_gates(&circuit) == gates && is_lowered_to(alloc, &circuit, gates)
         }
         None => false,
     }
 }
 
 /// The number of the first circuit with another number of gates.
-fn wrong_count(alloc: Global, rows: &[(&[u8], u64, bool)]) -> Option<usize> {
-    for (at, (text, gates, is_lowered)) in rows.iter().enumerate() {
-        if !is_counted(alloc, text, *gates, *is_lowered) {
+fn wrong_count(alloc: Global, rows: &[(&[u8], u64)]) -> Option<usize> {
+    for (at, (text, gates)) in rows.iter().enumerate() {
+        if !is_counted(alloc, text, *gates) {
             return Some(at);
         }
     }

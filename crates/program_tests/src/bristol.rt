@@ -1,6 +1,7 @@
 //! Circuits in Bristol Fashion, as the commands meet them.
 use crate::machine::{Machine, Runs, SEED};
 use std::alloc::Global;
+use std::thread::Threads;
 
 const AND: &str = "1 3\n2 1 1\n1 1\n\n2 1 0 1 2 AND\n";
 
@@ -33,19 +34,29 @@ static OUTPUTS: [(&str, &str, &str); 9] = [
 ];
 
 /// Whether a circuit's outputs are printed so, whichever way its wires are shared.
-fn is_printed(alloc: Global, circuit: &str, values: &str, printed: &str) -> bool {
+fn is_printed<R: Threads + Sync>(
+    rt: &R,
+    alloc: Global,
+    circuit: &str,
+    values: &str,
+    printed: &str,
+) -> bool {
     let files = [("c", circuit), ("v", values)];
     let machine = Machine::new(&files);
     let by_bits = ["plain", "c", "v", "--as", "B", "--parties", "2"];
     let by_keys = ["--parties=8", "--as=Y", "c", "v"];
-    machine.prints(alloc, Runs::Program, &by_bits, printed, 0)
-        && machine.prints(alloc, Runs::Plain, &by_keys, printed, 0)
+    machine.prints(rt, alloc, Runs::Program, &by_bits, printed, 0)
+        && machine.prints(rt, alloc, Runs::Plain, &by_keys, printed, 0)
 }
 
 /// The number of the first circuit whose outputs are printed otherwise.
-fn wrong_outputs(alloc: Global, rows: &[(&str, &str, &str)]) -> Option<usize> {
+fn wrong_outputs<R: Threads + Sync>(
+    rt: &R,
+    alloc: Global,
+    rows: &[(&str, &str, &str)],
+) -> Option<usize> {
     for (at, (circuit, values, printed)) in rows.iter().enumerate() {
-        if !is_printed(alloc, circuit, values, printed) {
+        if !is_printed(rt, alloc, circuit, values, printed) {
             return Some(at);
         }
     }
@@ -54,7 +65,7 @@ fn wrong_outputs(alloc: Global, rows: &[(&str, &str, &str)]) -> Option<usize> {
 
 #[test]
 fn the_last_wires_are_printed(rt: HostRuntime) {
-    let wrong = wrong_outputs(rt.alloc(), &OUTPUTS);
+    let wrong = wrong_outputs(&rt, rt.alloc(), &OUTPUTS);
     assert!(rt; wrong.is_none(), "circuit {wrong:?}");
 }
 
@@ -88,20 +99,37 @@ static SHARED: [(&str, &str, &str, &str); 3] = [
 ];
 
 /// Whether so many parties print this of their shares.
-fn is_run_by(alloc: Global, machine: &Machine, parties: &str, printed: &str) -> bool {
+fn is_run_by<R: Threads + Sync>(
+    rt: &R,
+    alloc: Global,
+    machine: &Machine,
+    parties: &str,
+    printed: &str,
+) -> bool {
     let words = ["local", "c", "v", SEED, "--as", "B", "--parties", parties];
-    machine.prints(alloc, Runs::Program, &words, printed, 0)
+    machine.prints(rt, alloc, Runs::Program, &words, printed, 0)
 }
 
-fn is_run(alloc: Global, circuit: &str, parties: &str, values: &str, printed: &str) -> bool {
+fn is_run<R: Threads + Sync>(
+    rt: &R,
+    alloc: Global,
+    circuit: &str,
+    parties: &str,
+    values: &str,
+    printed: &str,
+) -> bool {
     let files = [("c", circuit), ("v", values)];
-    is_run_by(alloc, &Machine::new(&files), parties, printed)
+    is_run_by(rt, alloc, &Machine::new(&files), parties, printed)
 }
 
 /// The number of the first circuit of which something else is printed.
-fn wrong_run(alloc: Global, rows: &[(&str, &str, &str, &str)]) -> Option<usize> {
+fn wrong_run<R: Threads + Sync>(
+    rt: &R,
+    alloc: Global,
+    rows: &[(&str, &str, &str, &str)],
+) -> Option<usize> {
     for (at, (circuit, parties, values, printed)) in rows.iter().enumerate() {
-        if !is_run(alloc, circuit, parties, values, printed) {
+        if !is_run(rt, alloc, circuit, parties, values, printed) {
             return Some(at);
         }
     }
@@ -110,7 +138,7 @@ fn wrong_run(alloc: Global, rows: &[(&str, &str, &str, &str)]) -> Option<usize> 
 
 #[test]
 fn all_parties_share_the_wires_by_xor(rt: HostRuntime) {
-    let wrong = wrong_run(rt.alloc(), &SHARED);
+    let wrong = wrong_run(&rt, rt.alloc(), &SHARED);
     assert!(rt; wrong.is_none(), "circuit {wrong:?}");
 }
 
@@ -227,16 +255,23 @@ static ROWS: [Row; 14] = [
 ];
 
 impl Row {
-    fn is_printed(&self, alloc: Global) -> bool {
+    fn is_printed<R: Threads + Sync>(&self, rt: &R, alloc: Global) -> bool {
         let files = [("c", self.circuit), ("v", self.values)];
-        Machine::new(&files).prints(alloc, Runs::Program, self.words, self.printed, self.status)
+        Machine::new(&files).prints(
+            rt,
+            alloc,
+            Runs::Program,
+            self.words,
+            self.printed,
+            self.status,
+        )
     }
 }
 
 /// The number of the first row of which something else is printed.
-fn wrong_row(alloc: Global, rows: &[Row]) -> Option<usize> {
+fn wrong_row<R: Threads + Sync>(rt: &R, alloc: Global, rows: &[Row]) -> Option<usize> {
     for (at, row) in rows.iter().enumerate() {
-        if !row.is_printed(alloc) {
+        if !row.is_printed(rt, alloc) {
             return Some(at);
         }
     }
@@ -245,6 +280,6 @@ fn wrong_row(alloc: Global, rows: &[Row]) -> Option<usize> {
 
 #[test]
 fn circuits_in_bristol_fashion_are_told_by_the_words(rt: HostRuntime) {
-    let wrong = wrong_row(rt.alloc(), &ROWS);
+    let wrong = wrong_row(&rt, rt.alloc(), &ROWS);
     assert!(rt; wrong.is_none(), "row {wrong:?}");
 }

@@ -1,6 +1,7 @@
 //! What `deal` stores, prints and refuses.
 use crate::machine::{End, Machine, Runs, SEED};
 use std::alloc::{AllocError, Global};
+use std::thread::Threads;
 
 // the files of a deal of one multiplication triple between two parties, under the seed of zeros
 const FIRST: &str =
@@ -164,14 +165,20 @@ fn behind_deal<'a>(alloc: Global, words: &[&'a str]) -> Result<Vec<&'a str>, All
 
 impl Deal {
     /// How the command ends, or the program that is given its name in front of the words.
-    fn end(&self, alloc: Global, runs: Runs, words: &[&str]) -> Option<End> {
+    fn end<R: Threads + Sync>(
+        &self,
+        rt: &R,
+        alloc: Global,
+        runs: Runs,
+        words: &[&str],
+    ) -> Option<End> {
         let machine = Machine {
             files: &FILES,
             failing_calls: self.failing_calls,
             room: self.room,
             failing_writes: self.failing_writes,
         };
-        machine.end(alloc, runs, words)
+        machine.end(rt, alloc, runs, words)
     }
 
     /// Whether each name holds what it has to.
@@ -185,25 +192,31 @@ impl Deal {
     }
 
     /// Whether it ends as it has to.
-    fn is_made(&self, alloc: Global, runs: Runs, words: &[&str]) -> bool {
-        match self.end(alloc, runs, words) {
+    fn is_made<R: Threads + Sync>(
+        &self,
+        rt: &R,
+        alloc: Global,
+        runs: Runs,
+        words: &[&str],
+    ) -> bool {
+        match self.end(rt, alloc, runs, words) {
             Some(end) => end.is(self.printed, self.status) && self.are_held(alloc, &end),
             None => false,
         }
     }
 
-    fn is_made_by_name(&self, alloc: Global) -> bool {
+    fn is_made_by_name<R: Threads + Sync>(&self, rt: &R, alloc: Global) -> bool {
         match behind_deal(alloc, self.words) {
-            Ok(words) => self.is_made(alloc, Runs::Program, words.as_slice()),
+            Ok(words) => self.is_made(rt, alloc, Runs::Program, words.as_slice()),
             Err(_) => false,
         }
     }
 }
 
 /// The number of the first deal that ends otherwise.
-fn wrong_deal(alloc: Global, rows: &[Deal]) -> Option<usize> {
+fn wrong_deal<R: Threads + Sync>(rt: &R, alloc: Global, rows: &[Deal]) -> Option<usize> {
     for (at, deal) in rows.iter().enumerate() {
-        if !deal.is_made(alloc, Runs::Deal, deal.words) || !deal.is_made_by_name(alloc) {
+        if !deal.is_made(rt, alloc, Runs::Deal, deal.words) || !deal.is_made_by_name(rt, alloc) {
             return Some(at);
         }
     }
@@ -212,6 +225,6 @@ fn wrong_deal(alloc: Global, rows: &[Deal]) -> Option<usize> {
 
 #[test]
 fn parts_are_stored_in_their_order(rt: HostRuntime) {
-    let wrong = wrong_deal(rt.alloc(), &DEALS);
+    let wrong = wrong_deal(&rt, rt.alloc(), &DEALS);
     assert!(rt; wrong.is_none(), "deal {wrong:?}");
 }

@@ -1,9 +1,10 @@
 //! The program on a machine in memory.
 ghost use Rattle.std.specs.Prelude.{◌≡◌, IfOk, length, vec_len};
 
-use mot_base::{MemFiles, MemSink, NoMemory};
+use mot_base::{MemFiles, MemSink, NoMemory, OpenGate};
 use motion_cli::{deal_command, local_command, motion, needs_command, plain_command};
 use std::alloc::{AllocError, Global};
+use std::thread::Threads;
 
 /// The word of a seed.
 pub(crate) const SEED: &str = "0000000000000000000000000000000000000000000000000000000000000000";
@@ -20,13 +21,20 @@ pub(crate) enum Runs {
 
 impl Runs {
     /// Runs it, and gives its status.
-    fn run(self, alloc: Global, words: &[String], files: &mut MemFiles, out: &mut MemSink) -> u8 {
+    fn run<R: Threads + Sync>(
+        self,
+        rt: &R,
+        alloc: Global,
+        words: &[String],
+        files: &mut MemFiles,
+        out: &mut MemSink,
+    ) -> u8 {
         match self {
-            Runs::Program => motion(alloc, words, files, out),
+            Runs::Program => motion(rt, alloc, words, files, out, &OpenGate),
             Runs::Plain => plain_command(alloc, words, files, out),
             Runs::Needs => needs_command(alloc, words, files, out),
             Runs::Deal => deal_command(alloc, words, files, out),
-            Runs::Local => local_command(alloc, words, files, out),
+            Runs::Local => local_command(rt, alloc, words, files, out, &OpenGate),
         }
     }
 }
@@ -92,37 +100,45 @@ impl<'a> Machine<'a> {
     }
 
     /// How a run on some words ends.
-    pub(crate) fn end(&self, alloc: Global, runs: Runs, words: &[&str]) -> Option<End> {
+    pub(crate) fn end<R: Threads + Sync>(
+        &self,
+        rt: &R,
+        alloc: Global,
+        runs: Runs,
+        words: &[&str],
+    ) -> Option<End> {
         match self.files(alloc) {
-            Ok(files) => self.end_over(alloc, runs, words, files),
+            Ok(files) => self.end_over(rt, alloc, runs, words, files),
             Err(_) => None,
         }
     }
 
     /// The same over other files.
-    pub(crate) fn end_over(
+    pub(crate) fn end_over<R: Threads + Sync>(
         &self,
+        rt: &R,
         alloc: Global,
         runs: Runs,
         words: &[&str],
         files: MemFiles,
     ) -> Option<End> {
         match self.out(alloc) {
-            Ok(out) => end_of(alloc, runs, words, files, out),
+            Ok(out) => end_of(rt, alloc, runs, words, files, out),
             Err(_) => None,
         }
     }
 
     /// Whether a run on some words writes this and ends with that status.
-    pub(crate) fn prints(
+    pub(crate) fn prints<R: Threads + Sync>(
         &self,
+        rt: &R,
         alloc: Global,
         runs: Runs,
         words: &[&str],
         written: &str,
         status: u8,
     ) -> bool {
-        match self.end(alloc, runs, words) {
+        match self.end(rt, alloc, runs, words) {
             Some(end) => end.is(written, status),
             None => false,
         }
@@ -161,7 +177,8 @@ fn contents_of(alloc: Global, files: &[(&str, &str)]) -> Result<Vec<Vec<u8>>, Al
 }
 
 /// How a run on some words ends, over these files and this output.
-fn end_of(
+fn end_of<R: Threads + Sync>(
+    rt: &R,
     alloc: Global,
     runs: Runs,
     words: &[&str],
@@ -170,7 +187,7 @@ fn end_of(
 ) -> Option<End> {
     match strings(alloc, words) {
         Ok(words) => {
-            let status = runs.run(alloc, words.as_slice(), &mut files, &mut out);
+            let status = runs.run(rt, alloc, words.as_slice(), &mut files, &mut out);
             Some(End { status, files, out })
         }
         Err(_) => None,

@@ -1,6 +1,7 @@
 //! What circuits need, and circuits with too many gates.
 use crate::machine::{Machine, Runs, SEED};
 use std::alloc::{AllocError, Global};
+use std::thread::Threads;
 
 /// Circuits, what `needs` prints of each, and its status.
 static NEEDS: [(&str, &str, u8); 7] = [
@@ -31,8 +32,8 @@ static NEEDS: [(&str, &str, u8); 7] = [
     ),
     (
         "mixed 1\nparties 2\nx = input 0 B 8\ny = b2a x\n",
-        "circuit c: not built\n",
-        2,
+        "gates 2\nmult 0\nbit 0\nshared 8\nkey 0\n",
+        0,
     ),
     (
         "mixed 1\nparties 2\nx = mul x x\n",
@@ -41,15 +42,25 @@ static NEEDS: [(&str, &str, u8); 7] = [
     ),
 ];
 
-fn is_printed(alloc: Global, circuit: &str, printed: &str, status: u8) -> bool {
+fn is_printed<R: Threads + Sync>(
+    rt: &R,
+    alloc: Global,
+    circuit: &str,
+    printed: &str,
+    status: u8,
+) -> bool {
     let files = [("c", circuit)];
-    Machine::new(&files).prints(alloc, Runs::Program, &["needs", "c"], printed, status)
+    Machine::new(&files).prints(rt, alloc, Runs::Program, &["needs", "c"], printed, status)
 }
 
 /// The number of the first circuit of which something else is printed.
-fn wrong_needs(alloc: Global, rows: &[(&str, &str, u8)]) -> Option<usize> {
+fn wrong_needs<R: Threads + Sync>(
+    rt: &R,
+    alloc: Global,
+    rows: &[(&str, &str, u8)],
+) -> Option<usize> {
     for (at, (circuit, printed, status)) in rows.iter().enumerate() {
-        if !is_printed(alloc, circuit, printed, *status) {
+        if !is_printed(rt, alloc, circuit, printed, *status) {
             return Some(at);
         }
     }
@@ -58,7 +69,7 @@ fn wrong_needs(alloc: Global, rows: &[(&str, &str, u8)]) -> Option<usize> {
 
 #[test]
 fn what_circuits_need_is_printed(rt: HostRuntime) {
-    let wrong = wrong_needs(rt.alloc(), &NEEDS);
+    let wrong = wrong_needs(&rt, rt.alloc(), &NEEDS);
     assert!(rt; wrong.is_none(), "circuit {wrong:?}");
 }
 
@@ -70,10 +81,10 @@ fn the_command_needs_is_called_without_its_name(rt: HostRuntime) {
     let files = [("c", PRODUCT)];
     let machine = Machine::new(&files);
     let printed = "gates 4\nmult 1\nbit 0\nshared 0\nkey 0\n";
-    let is_printed = machine.prints(rt.alloc(), Runs::Needs, &["c"], printed, 0);
-    let is_refused = machine.prints(rt.alloc(), Runs::Needs, &["needs", "c"], "usage\n", 1);
+    let is_printed = machine.prints(&rt, rt.alloc(), Runs::Needs, &["c"], printed, 0);
+    let is_refused = machine.prints(&rt, rt.alloc(), Runs::Needs, &["needs", "c"], "usage\n", 1);
     let line = "file d: missing\n";
-    let is_missing = machine.prints(rt.alloc(), Runs::Needs, &["d"], line, 8);
+    let is_missing = machine.prints(&rt, rt.alloc(), Runs::Needs, &["d"], line, 8);
     assert!(rt; is_printed && is_refused && is_missing);
 }
 
@@ -91,37 +102,39 @@ fn with_conversions(alloc: Global, count: u32) -> Result<String, AllocError> {
     Ok(text)
 }
 
-/// A circuit of as many gates as a plan has at most is evaluated, and not built.
-fn are_few(alloc: Global, circuit: &str) -> bool {
+/// A circuit of almost as many gates as a plan has at most is evaluated, and its needs are told.
+fn are_few<R: Threads + Sync>(rt: &R, alloc: Global, circuit: &str) -> bool {
     let files = [("c", circuit), ("v", "x = 1\n")];
     let machine = Machine::new(&files);
-    machine.prints(alloc, Runs::Program, &["plain", "c", "v"], "", 0)
+    machine.prints(rt, alloc, Runs::Program, &["plain", "c", "v"], "", 0)
         && machine.prints(
+            rt,
             alloc,
             Runs::Program,
             &["needs", "c"],
-            "circuit c: not built\n",
-            2,
+            "gates 4192540\nmult 0\nbit 245637\nshared 0\nkey 776458\n",
+            0,
         )
 }
 
-fn are_many(alloc: Global, circuit: &str) -> bool {
+fn are_many<R: Threads + Sync>(rt: &R, alloc: Global, circuit: &str) -> bool {
     let files = [("c", circuit), ("v", "")];
     let machine = Machine::new(&files);
     let local = ["local", "c", "v", SEED];
     let line = "circuit c: gates 4200067\n";
-    machine.prints(alloc, Runs::Program, &["plain", "c", "v"], line, 2)
-        && machine.prints(alloc, Runs::Program, &local, "circuit c: not built\n", 2)
+    machine.prints(rt, alloc, Runs::Program, &["plain", "c", "v"], line, 2)
+        && machine.prints(rt, alloc, Runs::Program, &["needs", "c"], line, 2)
+        && machine.prints(rt, alloc, Runs::Program, &local, line, 2)
 }
 
 #[test]
 fn too_many_gates_are_told_before_the_values(rt: HostRuntime) {
     let are_few = match with_conversions(rt.alloc(), 557) {
-        Ok(circuit) => are_few(rt.alloc(), circuit.as_str()),
+        Ok(circuit) => are_few(&rt, rt.alloc(), circuit.as_str()),
         Err(_) => false,
     };
     let are_many = match with_conversions(rt.alloc(), 558) {
-        Ok(circuit) => are_many(rt.alloc(), circuit.as_str()),
+        Ok(circuit) => are_many(&rt, rt.alloc(), circuit.as_str()),
         Err(_) => false,
     };
     assert!(rt; are_few && are_many);

@@ -1,6 +1,7 @@
 //! An output that takes no more, or fails.
 use crate::machine::{Machine, Runs, SEED};
 use std::alloc::Global;
+use std::thread::Threads;
 
 static FILES: [(&str, &str); 3] = [
     (
@@ -121,21 +122,28 @@ static WRITINGS: [Writing; 12] = [
 ];
 
 impl Writing {
-    fn is_written(&self, alloc: Global) -> bool {
+    fn is_written<R: Threads + Sync>(&self, rt: &R, alloc: Global) -> bool {
         let machine = Machine {
             files: &FILES,
             failing_calls: &[],
             room: self.room,
             failing_writes: self.failing_writes,
         };
-        machine.prints(alloc, Runs::Program, self.words, self.written, self.status)
+        machine.prints(
+            rt,
+            alloc,
+            Runs::Program,
+            self.words,
+            self.written,
+            self.status,
+        )
     }
 }
 
 /// The number of the first row of which something else is written.
-fn wrong_writing(alloc: Global, rows: &[Writing]) -> Option<usize> {
+fn wrong_writing<R: Threads + Sync>(rt: &R, alloc: Global, rows: &[Writing]) -> Option<usize> {
     for (at, row) in rows.iter().enumerate() {
-        if !row.is_written(alloc) {
+        if !row.is_written(rt, alloc) {
             return Some(at);
         }
     }
@@ -144,6 +152,6 @@ fn wrong_writing(alloc: Global, rows: &[Writing]) -> Option<usize> {
 
 #[test]
 fn a_cut_report_ends_with_its_own_status(rt: HostRuntime) {
-    let wrong = wrong_writing(rt.alloc(), &WRITINGS);
+    let wrong = wrong_writing(&rt, rt.alloc(), &WRITINGS);
     assert!(rt; wrong.is_none(), "row {wrong:?}");
 }

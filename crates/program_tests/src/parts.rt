@@ -2,6 +2,7 @@
 use crate::machine::{Machine, Runs, SEED};
 use mot_base::MemFiles;
 use std::alloc::Global;
+use std::thread::Threads;
 
 const PRODUCT: &str =
     "mixed 1\nparties 2\nx = input 0 A\ny = input 1 A\nz = mul x y\noutput z all\n";
@@ -235,39 +236,50 @@ impl Taking {
     }
 
     /// The files behind the deals.
-    fn dealt(&self, alloc: Global, machine: &Machine) -> Option<MemFiles> {
+    fn dealt<R: Threads + Sync>(
+        &self,
+        rt: &R,
+        alloc: Global,
+        machine: &Machine,
+    ) -> Option<MemFiles> {
         let Ok(mut files) = machine.files(alloc) else {
             return None;
         };
         for words in self.deals {
             files = machine
-                .end_over(alloc, Runs::Program, words, files)?
+                .end_over(rt, alloc, Runs::Program, words, files)?
                 .into_files();
         }
         Some(files)
     }
 
     /// Whether the command ends as it has to over these files.
-    fn is_taken_from(&self, alloc: Global, machine: &Machine, files: MemFiles) -> bool {
-        match machine.end_over(alloc, Runs::Program, self.words, files) {
+    fn is_taken_from<R: Threads + Sync>(
+        &self,
+        rt: &R,
+        alloc: Global,
+        machine: &Machine,
+        files: MemFiles,
+    ) -> bool {
+        match machine.end_over(rt, alloc, Runs::Program, self.words, files) {
             Some(end) => end.is(self.printed, self.status),
             None => false,
         }
     }
 
-    fn is_taken(&self, alloc: Global) -> bool {
+    fn is_taken<R: Threads + Sync>(&self, rt: &R, alloc: Global) -> bool {
         let machine = self.machine();
-        match self.dealt(alloc, &machine) {
-            Some(files) => self.is_taken_from(alloc, &machine, files),
+        match self.dealt(rt, alloc, &machine) {
+            Some(files) => self.is_taken_from(rt, alloc, &machine, files),
             None => false,
         }
     }
 }
 
 /// The number of the first row that ends otherwise.
-fn wrong_taking(alloc: Global, rows: &[Taking]) -> Option<usize> {
+fn wrong_taking<R: Threads + Sync>(rt: &R, alloc: Global, rows: &[Taking]) -> Option<usize> {
     for (at, row) in rows.iter().enumerate() {
-        if !row.is_taken(alloc) {
+        if !row.is_taken(rt, alloc) {
             return Some(at);
         }
     }
@@ -276,12 +288,12 @@ fn wrong_taking(alloc: Global, rows: &[Taking]) -> Option<usize> {
 
 #[test]
 fn parts_are_taken_from_files(rt: HostRuntime) {
-    let wrong = wrong_taking(rt.alloc(), &TAKINGS);
+    let wrong = wrong_taking(&rt, rt.alloc(), &TAKINGS);
     assert!(rt; wrong.is_none(), "row {wrong:?}");
 }
 
 #[test]
 fn parts_that_are_missing_are_told_in_their_turn(rt: HostRuntime) {
-    let wrong = wrong_taking(rt.alloc(), &MISSING);
+    let wrong = wrong_taking(&rt, rt.alloc(), &MISSING);
     assert!(rt; wrong.is_none(), "row {wrong:?}");
 }

@@ -2,6 +2,7 @@
 use crate::machine::{Machine, Runs, SEED};
 use mot_base::{MAX_FILE_LENGTH, MemFiles};
 use std::alloc::{AllocError, Global};
+use std::thread::Threads;
 
 static FILES: [(&str, &str); 10] = [
     (
@@ -33,9 +34,14 @@ fn machine() -> Machine<'static> {
 }
 
 /// The number of the first words that are not refused.
-fn words_not_refused(alloc: Global, machine: &Machine, rows: &[&[&str]]) -> Option<usize> {
+fn words_not_refused<R: Threads + Sync>(
+    rt: &R,
+    alloc: Global,
+    machine: &Machine,
+    rows: &[&[&str]],
+) -> Option<usize> {
     for (at, words) in rows.iter().enumerate() {
-        if !machine.prints(alloc, Runs::Program, words, "usage\n", 1) {
+        if !machine.prints(rt, alloc, Runs::Program, words, "usage\n", 1) {
             return Some(at);
         }
     }
@@ -83,12 +89,12 @@ static WORDS: [&[&str]; 19] = [
 
 #[test]
 fn other_words_are_refused(rt: HostRuntime) {
-    let wrong = words_not_refused(rt.alloc(), &machine(), &WORDS);
+    let wrong = words_not_refused(&rt, rt.alloc(), &machine(), &WORDS);
     assert!(rt; wrong.is_none(), "words {wrong:?}");
 }
 
 /// Words that are not names, and options.
-static OPTIONS: [&[&str]; 22] = [
+static OPTIONS: [&[&str]; 23] = [
     // help, which there is none of, and a divider in the place of a command
     &["-h"],
     &["--help"],
@@ -121,14 +127,15 @@ static OPTIONS: [&[&str]; 22] = [
     &["local", "product", "both", SEED, "--dealer"],
     &["local", "product", "both", SEED, "--dealer", "-d"],
     &["local", "product", "both", SEED, "--dealer="],
-    &["local", "product", "both", SEED, "--workers", "2"],
+    &["plain", "product", "both", "--workers", "2"],
+    &["local", "product", "both", SEED, "--workers", "17"],
     // commands that are not run
     &["batch", "product", SEED, "2", "1", "0", "0", "0"],
 ];
 
 #[test]
 fn other_options_are_refused(rt: HostRuntime) {
-    let wrong = words_not_refused(rt.alloc(), &machine(), &OPTIONS);
+    let wrong = words_not_refused(&rt, rt.alloc(), &machine(), &OPTIONS);
     assert!(rt; wrong.is_none(), "words {wrong:?}");
 }
 
@@ -315,22 +322,23 @@ static NOT_BUILT: [Refusal; 5] = [
 
 impl Refusal {
     /// Whether a command refuses so.
-    fn is_told(&self, alloc: Global, words: &[&str]) -> bool {
+    fn is_told<R: Threads + Sync>(&self, rt: &R, alloc: Global, words: &[&str]) -> bool {
         let machine = Machine {
             files: machine().files,
             failing_calls: self.failing_calls,
             room: 1000,
             failing_writes: &[],
         };
-        machine.prints(alloc, Runs::Program, words, self.line, self.status)
+        machine.prints(rt, alloc, Runs::Program, words, self.line, self.status)
     }
 
-    fn is_told_by_local(&self, alloc: Global) -> bool {
-        self.is_told(alloc, &["local", self.circuit, self.values, SEED])
+    fn is_told_by_local<R: Threads + Sync>(&self, rt: &R, alloc: Global) -> bool {
+        self.is_told(rt, alloc, &["local", self.circuit, self.values, SEED])
     }
 
-    fn is_told_by_both(&self, alloc: Global) -> bool {
-        self.is_told(alloc, &["plain", self.circuit, self.values]) && self.is_told_by_local(alloc)
+    fn is_told_by_both<R: Threads + Sync>(&self, rt: &R, alloc: Global) -> bool {
+        self.is_told(rt, alloc, &["plain", self.circuit, self.values])
+            && self.is_told_by_local(rt, alloc)
     }
 }
 
@@ -338,15 +346,15 @@ impl Refusal {
 fn the_command_refuses_its_own_name(rt: HostRuntime) {
     let local = ["local", "product", "both", SEED];
     let plain = ["plain", "product", "both"];
-    let is_local_refused = machine().prints(rt.alloc(), Runs::Local, &local, "usage\n", 1);
-    let is_plain_refused = machine().prints(rt.alloc(), Runs::Plain, &plain, "usage\n", 1);
+    let is_local_refused = machine().prints(&rt, rt.alloc(), Runs::Local, &local, "usage\n", 1);
+    let is_plain_refused = machine().prints(&rt, rt.alloc(), Runs::Plain, &plain, "usage\n", 1);
     assert!(rt; is_local_refused && is_plain_refused);
 }
 
 /// The number of the first row of which something else is told.
-fn wrong_refusal(alloc: Global, rows: &[Refusal]) -> Option<usize> {
+fn wrong_refusal<R: Threads + Sync>(rt: &R, alloc: Global, rows: &[Refusal]) -> Option<usize> {
     for (at, row) in rows.iter().enumerate() {
-        if !row.is_told_by_both(alloc) {
+        if !row.is_told_by_both(rt, alloc) {
             return Some(at);
         }
     }
@@ -355,14 +363,18 @@ fn wrong_refusal(alloc: Global, rows: &[Refusal]) -> Option<usize> {
 
 #[test]
 fn the_first_cause_is_told(rt: HostRuntime) {
-    let wrong = wrong_refusal(rt.alloc(), &REFUSALS);
+    let wrong = wrong_refusal(&rt, rt.alloc(), &REFUSALS);
     assert!(rt; wrong.is_none(), "row {wrong:?}");
 }
 
 /// The same of `local` alone.
-fn wrong_refusal_of_local(alloc: Global, rows: &[Refusal]) -> Option<usize> {
+fn wrong_refusal_of_local<R: Threads + Sync>(
+    rt: &R,
+    alloc: Global,
+    rows: &[Refusal],
+) -> Option<usize> {
     for (at, row) in rows.iter().enumerate() {
-        if !row.is_told_by_local(alloc) {
+        if !row.is_told_by_local(rt, alloc) {
             return Some(at);
         }
     }
@@ -371,7 +383,7 @@ fn wrong_refusal_of_local(alloc: Global, rows: &[Refusal]) -> Option<usize> {
 
 #[test]
 fn circuits_that_are_not_run_on_shares_are_told(rt: HostRuntime) {
-    let wrong = wrong_refusal_of_local(rt.alloc(), &NOT_BUILT);
+    let wrong = wrong_refusal_of_local(&rt, rt.alloc(), &NOT_BUILT);
     assert!(rt; wrong.is_none(), "row {wrong:?}");
 }
 
@@ -383,8 +395,9 @@ fn too_long(alloc: Global) -> Result<MemFiles, AllocError> {
     Ok(MemFiles::new(names, contents, Vec::new(alloc)))
 }
 
-fn is_too_long(alloc: Global, files: MemFiles) -> bool {
+fn is_too_long<R: Threads + Sync>(rt: &R, alloc: Global, files: MemFiles) -> bool {
     match machine().end_over(
+        rt,
         alloc,
         Runs::Program,
         &["local", "long", "long", SEED],
@@ -398,7 +411,7 @@ fn is_too_long(alloc: Global, files: MemFiles) -> bool {
 #[test]
 fn a_file_that_is_too_long_is_refused(rt: HostRuntime) {
     let is_refused = match too_long(rt.alloc()) {
-        Ok(files) => is_too_long(rt.alloc(), files),
+        Ok(files) => is_too_long(&rt, rt.alloc(), files),
         Err(_) => false,
     };
     assert!(rt; is_refused);

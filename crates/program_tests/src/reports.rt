@@ -1,6 +1,7 @@
 //! Circuits, the values of their inputs, and what is printed.
 use crate::machine::{Machine, Runs, SEED};
 use std::alloc::Global;
+use std::thread::Threads;
 
 struct Report {
     circuit: &'static str,
@@ -9,16 +10,28 @@ struct Report {
 }
 
 impl Report {
-    fn is_printed(&self, alloc: Global, runs: Runs, words: &[&str]) -> bool {
+    fn is_printed<R: Threads + Sync>(
+        &self,
+        rt: &R,
+        alloc: Global,
+        runs: Runs,
+        words: &[&str],
+    ) -> bool {
         let files = [("c", self.circuit), ("v", self.values)];
-        Machine::new(&files).prints(alloc, runs, words, self.printed, 0)
+        Machine::new(&files).prints(rt, alloc, runs, words, self.printed, 0)
     }
 }
 
 /// The number of the first report that is printed otherwise.
-fn wrong_report(alloc: Global, rows: &[Report], runs: Runs, words: &[&str]) -> Option<usize> {
+fn wrong_report<R: Threads + Sync>(
+    rt: &R,
+    alloc: Global,
+    rows: &[Report],
+    runs: Runs,
+    words: &[&str],
+) -> Option<usize> {
     for (at, report) in rows.iter().enumerate() {
-        if !report.is_printed(alloc, runs, words) {
+        if !report.is_printed(rt, alloc, runs, words) {
             return Some(at);
         }
     }
@@ -188,14 +201,31 @@ fn reports() -> &'static [Report] {
 #[test]
 fn each_party_is_told_its_outputs_and_its_digest(rt: HostRuntime) {
     let words = ["local", "c", "v", SEED];
-    let wrong = wrong_report(rt.alloc(), reports(), Runs::Program, &words);
+    let wrong = wrong_report(&rt, rt.alloc(), reports(), Runs::Program, &words);
     assert!(rt; wrong.is_none(), "report {wrong:?}");
 }
 
 #[test]
 fn the_command_is_called_without_its_name(rt: HostRuntime) {
-    let wrong = wrong_report(rt.alloc(), reports(), Runs::Local, &["c", "v", SEED]);
+    let wrong = wrong_report(&rt, rt.alloc(), reports(), Runs::Local, &["c", "v", SEED]);
     assert!(rt; wrong.is_none(), "report {wrong:?}");
+}
+
+/// The first number of workers with which a report is another.
+fn wrong_workers<R: Threads + Sync>(rt: &R, alloc: Global, numbers: &[&str]) -> Option<usize> {
+    for (at, workers) in numbers.iter().enumerate() {
+        let words = ["local", "c", "v", SEED, "--workers", workers];
+        if wrong_report(rt, alloc, reports(), Runs::Program, &words).is_some() {
+            return Some(at);
+        }
+    }
+    None
+}
+
+#[test]
+fn workers_change_no_byte(rt: HostRuntime) {
+    let wrong = wrong_workers(&rt, rt.alloc(), &["1", "2", "7", "16"]);
+    assert!(rt; wrong.is_none(), "number {wrong:?}");
 }
 
 // seeds of digits of both cases, and what is printed of the product
@@ -215,9 +245,21 @@ static SEEDS: [(&str, &str); 2] = [
 ];
 
 /// The number of the first seed under which something else is printed.
-fn wrong_seed(alloc: Global, machine: &Machine, rows: &[(&str, &str)]) -> Option<usize> {
+fn wrong_seed<R: Threads + Sync>(
+    rt: &R,
+    alloc: Global,
+    machine: &Machine,
+    rows: &[(&str, &str)],
+) -> Option<usize> {
     for (at, (seed, printed)) in rows.iter().enumerate() {
-        if !machine.prints(alloc, Runs::Program, &["local", "c", "v", seed], printed, 0) {
+        if !machine.prints(
+            rt,
+            alloc,
+            Runs::Program,
+            &["local", "c", "v", seed],
+            printed,
+            0,
+        ) {
             return Some(at);
         }
     }
@@ -227,7 +269,7 @@ fn wrong_seed(alloc: Global, machine: &Machine, rows: &[(&str, &str)]) -> Option
 #[test]
 fn the_digests_follow_the_seed(rt: HostRuntime) {
     let files = [("c", PRODUCT), ("v", "x = 6\ny = 7\n")];
-    let wrong = wrong_seed(rt.alloc(), &Machine::new(&files), &SEEDS);
+    let wrong = wrong_seed(&rt, rt.alloc(), &Machine::new(&files), &SEEDS);
     assert!(rt; wrong.is_none(), "seed {wrong:?}");
 }
 
@@ -271,12 +313,13 @@ fn evaluations() -> &'static [Report] {
 #[test]
 fn the_plain_evaluation_is_printed(rt: HostRuntime) {
     let wrong = wrong_report(
+        &rt,
         rt.alloc(),
         evaluations(),
         Runs::Program,
         &["plain", "c", "v"],
     );
-    let wrong_command = wrong_report(rt.alloc(), evaluations(), Runs::Plain, &["c", "v"]);
+    let wrong_command = wrong_report(&rt, rt.alloc(), evaluations(), Runs::Plain, &["c", "v"]);
     assert!(rt;
         wrong.is_none() && wrong_command.is_none(),
         "{wrong:?} {wrong_command:?}"
@@ -322,9 +365,14 @@ static LINES: [(&[&str], &str); 9] = [
 ];
 
 /// The number of the first words by which something else is printed.
-fn wrong_line(alloc: Global, machine: &Machine, rows: &[(&[&str], &str)]) -> Option<usize> {
+fn wrong_line<R: Threads + Sync>(
+    rt: &R,
+    alloc: Global,
+    machine: &Machine,
+    rows: &[(&[&str], &str)],
+) -> Option<usize> {
     for (at, (words, printed)) in rows.iter().enumerate() {
-        if !machine.prints(alloc, Runs::Program, words, printed, 0) {
+        if !machine.prints(rt, alloc, Runs::Program, words, printed, 0) {
             return Some(at);
         }
     }
@@ -333,6 +381,6 @@ fn wrong_line(alloc: Global, machine: &Machine, rows: &[(&[&str], &str)]) -> Opt
 
 #[test]
 fn names_are_told_from_options(rt: HostRuntime) {
-    let wrong = wrong_line(rt.alloc(), &Machine::new(&DASHED), &LINES);
+    let wrong = wrong_line(&rt, rt.alloc(), &Machine::new(&DASHED), &LINES);
     assert!(rt; wrong.is_none(), "line {wrong:?}");
 }

@@ -21,7 +21,12 @@ static ALL: [Offer; 4] = [
     },
     Offer {
         command: Command::Local,
-        options: &[OptionName::As, OptionName::Parties, OptionName::Dealer],
+        options: &[
+            OptionName::As,
+            OptionName::Parties,
+            OptionName::Dealer,
+            OptionName::Workers,
+        ],
     },
 ];
 
@@ -63,6 +68,14 @@ fn bristol(alloc: Global, words: Option<BristolWords>) -> Result<String, AllocEr
     format!(in alloc; " {sharing} {}", words.parties)
 }
 
+/// More workers than one.
+fn workers(alloc: Global, count: u8) -> Result<String, AllocError> {
+    match count {
+        1 => String::from_str(alloc, ""),
+        _ => format!(in alloc; " by {count}"),
+    }
+}
+
 /// What is asked for, with the byte at place 7 for the seed.
 fn shown(alloc: Global, words: &CommandWords) -> Result<String, AllocError> {
     match words {
@@ -89,11 +102,12 @@ fn shown(alloc: Global, words: &CommandWords) -> Result<String, AllocError> {
                 None => String::from_str(alloc, "")?,
             };
             format!(in alloc;
-                "local {} {} {:x}{}{dealer}",
+                "local {} {} {:x}{}{dealer}{}",
                 w.circuit,
                 w.values,
                 w.seed.0[7],
-                bristol(alloc, w.bristol)?
+                bristol(alloc, w.bristol)?,
+                workers(alloc, w.workers)?
             )
         }
     }
@@ -134,7 +148,7 @@ fn wrong_line(alloc: Global, offers: &[Offer], rows: &[(&[&str], &str)]) -> Opti
 }
 
 // a line and its reading, where every command is run
-static READ: [(&[&str], &str); 23] = [
+static READ: [(&[&str], &str); 26] = [
     (&["plain", "c", "v"], "plain c v"),
     (&["plain", "--", "c", "v"], "plain c v"),
     (&["plain", "c", "--", "v"], "plain c v"),
@@ -198,6 +212,18 @@ static READ: [(&[&str], &str); 23] = [
             LOWER,
         ],
         "local c v 77 B 4 from d",
+    ),
+    (
+        &["local", "c", "v", LOWER, "--workers", "1"],
+        "local c v 77",
+    ),
+    (
+        &["local", "--workers=016", "c", "v", LOWER],
+        "local c v 77 by 16",
+    ),
+    (
+        &["local", "c", "v", LOWER, "--workers=2", "--dealer=d"],
+        "local c v 77 from d by 2",
     ),
 ];
 
@@ -377,7 +403,7 @@ fn lines_out_of_the_grammar_are_usage(rt: HostRuntime) {
 }
 
 // the same with options
-static REFUSED_OPTIONS: [&[&str]; 24] = [
+static REFUSED_OPTIONS: [&[&str]; 28] = [
     &["plain", "c", "v", "--as=B", "--as=B", "--parties", "2"],
     &[
         "plain",
@@ -411,6 +437,10 @@ static REFUSED_OPTIONS: [&[&str]; 24] = [
     &["local", "c", "v", LOWER, "--dealer", "-d"],
     &["local", "c", "v", LOWER, "--dealer="],
     &["local", "c", "v", LOWER, "--dealer", "--", "d"],
+    &["local", "c", "v", LOWER, "--workers", "0"],
+    &["local", "c", "v", LOWER, "--workers=17"],
+    &["local", "c", "v", LOWER, "--workers=two"],
+    &["local", "c", "v", LOWER, "--workers=2", "--workers=2"],
 ];
 
 #[test]

@@ -5,34 +5,35 @@ use Rattle.mot_base.specs.Limits.{most_parties}
 use Rattle.joint_run.specs.Party.{Own}
 use Rattle.local_run.specs.Meaning.{owns_with}
 use Rattle.local_run.specs.OneSeed.{owns_of}
-use Rattle.motion_cli.specs.Circuits.{circuit_of, inputs_of, parties_of}
+use Rattle.any_circuit.specs.Circuits.{circuit_of, inputs_of, parties_of}
 use Rattle.motion_cli.proofs.TakenLemmas.{plan_parties, job_served, reports_count, all_widths, run_reported}
 use Rattle.motion_cli.proofs.local.run_and_report.Goals as goal
 
-pub local_turns-requires : goal.local_turns-requires
-local_turns-requires c =
+pub run_job-requires-clause-job : goal.run_job-requires-clause-job
+run_job-requires-clause-job g c = λ κs within.
     job_served c.args.plan c.in_ok-job.job.plan c.args.words.now.seed.0 (inputs_of (circuit_of c.args.circuit.now)) c.in_ok-inputs.inputs
     c.args.values.now c.args.parts.now c.in_ok-job.job.owns.items c.in_ok-job.ensures.plan c.in_ok-inputs.ensures.value
     c.in_ok-job.ensures.owns c.parties-parties.ensures.plan c.requires.unkeyed c.requires.takes c.requires.widths c.requires.serve
 
 pub report_runs-requires-clause-parties : goal.report_runs-requires-clause-parties
-report_runs-requires-clause-parties c =
+report_runs-requires-clause-parties g c =
     let count = reports_count c.in_ok-job.job.plan (owns_with c.in_ok-job.job.owns.items c.args.parts.now) c.in_ok-reports.reports.items c.in_ok-reports.ensures.joint in
     let plan = ap (λ p. p.parties) c.in_ok-job.ensures.plan in
     let few = c.parties-parties.ensures.plan.most_parties in
     rw c.as_slice.ensures.value (let all : length c.in_ok-reports.reports.items ≤ most_parties = omega (arith, count, plan, few) in all)
 
 pub report_runs-requires-clause-widths : goal.report_runs-requires-clause-widths
-report_runs-requires-clause-widths c =
+report_runs-requires-clause-widths g c =
     let circuit = circuit_of c.args.circuit.now in
     let same = c.in_ok-job.ensures.plan ∙ c.requires.plan in
     let keeps = rw c.requires.plan at c.requires.keeps in
     rw (c.as_slice.ensures.value, c.in_ok-outputs.ensures.value)
-    (all_widths circuit (owns_with c.in_ok-job.job.owns.items c.args.parts.now) c.in_ok-reports.reports.items c.requires.whole keeps
+    (all_widths circuit (owns_with c.in_ok-job.job.owns.items c.args.parts.now) c.in_ok-reports.reports.items c.requires.whole
+    (rw c.requires.plan at c.parties-parties.ensures.plan) keeps
     (rw same at c.in_ok-reports.ensures.joint))
 
 pub returns : goal.returns
-returns c =
+returns g c =
     let circuit = circuit_of c.args.circuit.now in
     let parts = c.args.parts.now in
     let v = c.args.values.now in

@@ -3,11 +3,11 @@ use Rattle.mot_base.specs.Faults.{Rose}
 use Rattle.cli_words.specs.Grammar.{texts, Asks}
 use Rattle.cli_words.specs.Request.{request_of}
 use Rattle.motion_cli.specs.Commands.{RequestEnds, request_files}
-use Rattle.motion_cli.specs.Ending.{outside}
-use Rattle.motion_cli.specs.Refusal.{came_to}
+use Rattle.command_ends.specs.Ending.{outside}
+use Rattle.command_ends.specs.Refusal.{came_to}
 use Rattle.motion_cli.specs.Words.{NamesCommand, StoresNothing}
 use Rattle.motion_cli.proofs.CallLemmas.{call_ends_well}
-use Rattle.motion_cli.proofs.ProgramLemmas.{unnamed_is_usage}
+use Rattle.command_ends.proofs.ProgramLemmas.{unnamed_is_usage}
 use Rattle.motion_cli.proofs.WordsLemmas.{asked_is_named}
 use Rattle.motion_cli.proofs.program.motion.Goals as goal
 

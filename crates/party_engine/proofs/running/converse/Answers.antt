@@ -1,11 +1,16 @@
 use Rattle.std.proofs.Common.{◌≡◌, ◌∙◌, [], ap, Some}
 use Rattle.mot_base.specs.Links.{IsKept}
-use Rattle.peer_streams.specs.Runs.{place_in, hellos_to}
+use Rattle.peer_streams.specs.Runs.{place_in, hellos_to, ends_for}
+use Rattle.peer_streams.specs.Sending.{bytes_for}
 use Rattle.peer_streams.specs.Taking.{HasTaken, hellos_of}
 use Rattle.peer_streams.proofs.Exchanged.{link-answers, answers, fresh-shows, fresh-taken, fresh-are, fresh-hellos, heard-all}
 use Rattle.peer_streams.proofs.Taken.{shows-nothing}
+use Rattle.peer_streams.proofs.Left.{left-kept, left-then}
+use Rattle.peer_streams.proofs.Sent.{sent-ahead, begun-all}
 use Rattle.party_engine.proofs.Conversing.{none_at_first, first_read, first_said, talked}
 use Rattle.party_engine.proofs.Hearing.{still_scene, has_kept}
+use Rattle.party_engine.proofs.Kept.{lawful}
+use Rattle.party_engine.proofs.Refused.{came_so, came_none, hello_some, talked_some, ended_some}
 use Rattle.party_engine.proofs.running.converse.Goals as goal
 
 pub returns-in-Err-clause-shown : goal.returns-in-Err-clause-shown
@@ -78,3 +83,55 @@ returns-in-Err-finish-clause-shown g c = λ before told.
 pub returns-in-Ok-finish-clause-others : goal.returns-in-Ok-finish-clause-others
 returns-in-Ok-finish-clause-others g c = λ slot outside.
     c.read_all.ensures.others slot outside ∙ c.in-Ok-speak.ensures.others slot outside ∙ none_at_first c.args.talk.now.inbox c.requires.fresh slot
+
+pub returns-in-Err-clause-begun : goal.returns-in-Err-clause-begun
+returns-in-Err-clause-begun g c = λ before told.
+    hello_some c.args.brought.now c.args.run.now c.args.me before (g.L.Links.left c.greet.new.links) c.args.talk.now.inbox (g.L.Links.sent c.args.links.now) (g.L.Links.sent c.greet.new.links)
+    (came_none c.args.run.now c.args.me c.args.talk.now.inbox before (g.L.Links.left c.greet.new.links) c.requires.fresh (rw told at c.greet.ensures.left))
+    c.in-Err.ensures.some
+
+pub returns-in-Err-speak-clause-begun : goal.returns-in-Err-speak-clause-begun
+returns-in-Err-speak-clause-begun g c = λ before told.
+    let kept : IsKept (Some before) (g.L.Links.left c.greet.new.links) = rw told at c.greet.ensures.left in
+    let fresh = fresh-taken c.args.run.now c.args.me before (g.L.Links.left c.greet.new.links) (g.L.Links.closed c.greet.new.links) c.greet.ensures.closed c.args.talk.now.inbox c.requires.fresh kept in
+    let far : HasTaken before (g.L.Links.left c.greet.new.links) (place_in c.args.run.now c.args.me) c.args.talk.now.inbox c.args.talk.now.peers.items = rw c.requires.peers fresh in
+    talked_some c.args.brought.now c.args.run.now c.args.me before (g.L.Links.left c.speak.new.links) (g.L.Links.sent c.args.links.now) (g.L.Links.sent c.greet.new.links) (g.L.Links.sent c.speak.new.links) c.in-Ok.ensures.all
+    (c.in-Err-speak.ensures.begun (g.L.Links.sent c.greet.new.links) before (rw c.requires.stages (first_said (g.L.Links.sent c.greet.new.links) _)) far)
+
+pub returns-in-Err-send_ends-clause-begun : goal.returns-in-Err-send_ends-clause-begun
+returns-in-Err-send_ends-clause-begun g c = λ before told.
+    let kept : IsKept (Some before) (g.L.Links.left c.greet.new.links) = rw told at c.greet.ensures.left in
+    let fresh = fresh-taken c.args.run.now c.args.me before (g.L.Links.left c.greet.new.links) (g.L.Links.closed c.greet.new.links) c.greet.ensures.closed c.args.talk.now.inbox c.requires.fresh kept in
+    let far : HasTaken before (g.L.Links.left c.greet.new.links) (place_in c.args.run.now c.args.me) c.args.talk.now.inbox c.args.talk.now.peers.items = rw c.requires.peers fresh in
+    let came = came_so (place_in c.args.run.now c.args.me) (g.L.Links.closed c.speak.new.links) c.speak.new.talk.inbox c.speak.new.talk.peers.items before (g.L.Links.left c.speak.new.links) (g.L.Links.left c.send_ends.new.links) c.in-Ok-speak.ensures.peers (c.in-Ok-speak.ensures.taken before far)
+    (left-kept (g.L.Links.left c.speak.new.links) (g.L.Links.left c.send_ends.new.links) c.send_ends.ensures.left) in
+    let said = (c.in-Ok-speak.ensures.said (g.L.Links.sent c.greet.new.links) (rw c.requires.stages (first_said (g.L.Links.sent c.greet.new.links) _))) in
+    let lawful_is = lawful c.args.brought.now c.speak.new.talk.inbox c.speak.new.talk.stages c.in-Ok-speak.ensures.scene said.log said.each in
+    ended_some c.args.brought.now c.args.run.now c.args.me before (g.L.Links.left c.send_ends.new.links) c.speak.new.talk.inbox said.log (g.L.Links.sent c.args.links.now) (g.L.Links.sent c.greet.new.links) (g.L.Links.sent c.speak.new.links) (g.L.Links.sent c.send_ends.new.links) came lawful_is c.in-Ok.ensures.all said.sent c.in-Err-send_ends.ensures.some
+
+pub returns-in-Err-read_all-clause-begun : goal.returns-in-Err-read_all-clause-begun
+returns-in-Err-read_all-clause-begun g c = λ before told.
+    let kept : IsKept (Some before) (g.L.Links.left c.greet.new.links) = rw told at c.greet.ensures.left in
+    let fresh = fresh-taken c.args.run.now c.args.me before (g.L.Links.left c.greet.new.links) (g.L.Links.closed c.greet.new.links) c.greet.ensures.closed c.args.talk.now.inbox c.requires.fresh kept in
+    let far : HasTaken before (g.L.Links.left c.greet.new.links) (place_in c.args.run.now c.args.me) c.args.talk.now.inbox c.args.talk.now.peers.items = rw c.requires.peers fresh in
+    let came = came_so (place_in c.args.run.now c.args.me) (g.L.Links.closed c.speak.new.links) c.speak.new.talk.inbox c.speak.new.talk.peers.items before (g.L.Links.left c.speak.new.links) (g.L.Links.left c.read_all.new.links) c.in-Ok-speak.ensures.peers (c.in-Ok-speak.ensures.taken before far)
+    (left-then (g.L.Links.left c.speak.new.links) (g.L.Links.left c.send_ends.new.links) (g.L.Links.left c.read_all.new.links) (left-kept (g.L.Links.left c.speak.new.links) (g.L.Links.left c.send_ends.new.links) c.send_ends.ensures.left) c.read_all.ensures.left) in
+    let said = (c.in-Ok-speak.ensures.said (g.L.Links.sent c.greet.new.links) (rw c.requires.stages (first_said (g.L.Links.sent c.greet.new.links) _))) in
+    let lawful_is = lawful c.args.brought.now c.speak.new.talk.inbox c.speak.new.talk.stages c.in-Ok-speak.ensures.scene said.log said.each in
+    let ends = sent-ahead (g.L.Links.sent c.speak.new.links) (g.L.Links.sent c.send_ends.new.links) (g.L.Links.sent c.read_all.new.links) (bytes_for c.args.me.0 (ends_for c.args.run.now)) c.in-Ok-send_ends.ensures.all c.read_all.ensures.sent in
+    ended_some c.args.brought.now c.args.run.now c.args.me before (g.L.Links.left c.read_all.new.links) c.speak.new.talk.inbox said.log (g.L.Links.sent c.args.links.now) (g.L.Links.sent c.greet.new.links) (g.L.Links.sent c.speak.new.links) (g.L.Links.sent c.read_all.new.links) came lawful_is c.in-Ok.ensures.all said.sent
+    (begun-all (g.L.Links.sent c.speak.new.links) (g.L.Links.sent c.read_all.new.links) (bytes_for c.args.me.0 (ends_for c.args.run.now)) ends)
+
+pub returns-in-Err-finish-clause-begun : goal.returns-in-Err-finish-clause-begun
+returns-in-Err-finish-clause-begun g c = λ before told.
+    let kept : IsKept (Some before) (g.L.Links.left c.greet.new.links) = rw told at c.greet.ensures.left in
+    let fresh = fresh-taken c.args.run.now c.args.me before (g.L.Links.left c.greet.new.links) (g.L.Links.closed c.greet.new.links) c.greet.ensures.closed c.args.talk.now.inbox c.requires.fresh kept in
+    let far : HasTaken before (g.L.Links.left c.greet.new.links) (place_in c.args.run.now c.args.me) c.args.talk.now.inbox c.args.talk.now.peers.items = rw c.requires.peers fresh in
+    let came = came_so (place_in c.args.run.now c.args.me) (g.L.Links.closed c.speak.new.links) c.speak.new.talk.inbox c.speak.new.talk.peers.items before (g.L.Links.left c.speak.new.links) (g.L.Links.left c.finish.new.self) c.in-Ok-speak.ensures.peers (c.in-Ok-speak.ensures.taken before far)
+    (left-then (g.L.Links.left c.speak.new.links) (g.L.Links.left c.read_all.new.links) (g.L.Links.left c.finish.new.self) (left-then (g.L.Links.left c.speak.new.links) (g.L.Links.left c.send_ends.new.links) (g.L.Links.left c.read_all.new.links) (left-kept (g.L.Links.left c.speak.new.links) (g.L.Links.left c.send_ends.new.links) c.send_ends.ensures.left) c.read_all.ensures.left) (left-kept (g.L.Links.left c.read_all.new.links) (g.L.Links.left c.finish.new.self) c.finish.ensures.left)) in
+    let said = (c.in-Ok-speak.ensures.said (g.L.Links.sent c.greet.new.links) (rw c.requires.stages (first_said (g.L.Links.sent c.greet.new.links) _))) in
+    let lawful_is = lawful c.args.brought.now c.speak.new.talk.inbox c.speak.new.talk.stages c.in-Ok-speak.ensures.scene said.log said.each in
+    let ends = sent-ahead (g.L.Links.sent c.speak.new.links) (g.L.Links.sent c.read_all.new.links) (g.L.Links.sent c.finish.new.self) (bytes_for c.args.me.0 (ends_for c.args.run.now))
+    (sent-ahead (g.L.Links.sent c.speak.new.links) (g.L.Links.sent c.send_ends.new.links) (g.L.Links.sent c.read_all.new.links) (bytes_for c.args.me.0 (ends_for c.args.run.now)) c.in-Ok-send_ends.ensures.all c.read_all.ensures.sent) c.finish.ensures.sent in
+    ended_some c.args.brought.now c.args.run.now c.args.me before (g.L.Links.left c.finish.new.self) c.speak.new.talk.inbox said.log (g.L.Links.sent c.args.links.now) (g.L.Links.sent c.greet.new.links) (g.L.Links.sent c.speak.new.links) (g.L.Links.sent c.finish.new.self) came lawful_is c.in-Ok.ensures.all said.sent
+    (begun-all (g.L.Links.sent c.speak.new.links) (g.L.Links.sent c.finish.new.self) (bytes_for c.args.me.0 (ends_for c.args.run.now)) ends)

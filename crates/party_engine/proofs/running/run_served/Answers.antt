@@ -6,7 +6,9 @@ use Rattle.peer_streams.specs.Taking.{IsAnswer}
 use Rattle.party_stages.specs.Following.{Side, heard_of}
 use Rattle.party_stages.proofs.Taking.{kept_extends}
 use Rattle.party_engine.specs.Run.{run_of, KeepsNone}
-use Rattle.party_engine.specs.Saying.{HasTalked}
+use Rattle.party_engine.specs.Saying.{HasTalked, HasTalkedSome}
+use Rattle.party_engine.proofs.Kept.{lawful}
+use Rattle.party_engine.proofs.Refused.{unsaid, came_whole, all_some}
 use Rattle.party_engine.proofs.Reported.{said_can, all_said, is_report}
 use Rattle.party_engine.proofs.running.run_served.Goals as goal
 
@@ -19,7 +21,7 @@ returns-in-Err-converse-clause-refused g c = λ before told.
       c.in-Ok.talk.inbox.slots,
       c.in-Ok.ensures.slots,
       subst (λ (p : Party). IsAnswer before (g.L.Links.left c.converse.new.links) (g.L.Links.closed c.converse.new.links) (place_in (run_of b c.args.circuit.now) p) (hellos_to (run_of b c.args.circuit.now) p) c.in-Ok.talk.inbox.slots c.in-Err-converse.cause) me
-          (subst (λ (r : Run). IsAnswer before (g.L.Links.left c.converse.new.links) (g.L.Links.closed c.converse.new.links) (place_in r c.brought.inside.own.now.me) (hellos_to r c.brought.inside.own.now.me) c.in-Ok.talk.inbox.slots c.in-Err-converse.cause) c.run_of-run.ensures answer),
+          (subst (λ (r : Run). IsAnswer before (g.L.Links.left c.converse.new.links) (g.L.Links.closed c.converse.new.links) (place_in r c.brought.inside.own.now.me) (hellos_to r c.brought.inside.own.now.me) c.in-Ok.talk.inbox.slots c.in-Err-converse.cause) c.run_of-run.ensures.value answer),
     ))
 
 pub report-requires-clause-can : goal.report-requires-clause-can
@@ -36,13 +38,13 @@ returns-in-Ok-report-clause-over g c = λ before told.
     let me : c.brought.inside.own.now.me ≡ b.own.me = ap (λ (s : Side). s.own.me) c.brought.view_is in
     let heard : HasHeard before (g.L.Links.left c.converse.new.links) (place_in run b.own.me) run inbox =
     subst (λ (p : Party). HasHeard before (g.L.Links.left c.converse.new.links) (place_in run p) run inbox) me
-    (subst (λ (r : Run). HasHeard before (g.L.Links.left c.converse.new.links) (place_in r c.brought.inside.own.now.me) r inbox) c.run_of-run.ensures (c.in-Ok-converse.ensures.heard before told)) in
+    (subst (λ (r : Run). HasHeard before (g.L.Links.left c.converse.new.links) (place_in r c.brought.inside.own.now.me) r inbox) c.run_of-run.ensures.value (c.in-Ok-converse.ensures.heard before told)) in
     let others : KeepsNone (place_in run b.own.me) inbox =
     subst (λ (p : Party). KeepsNone (place_in run p) inbox) me
-    (subst (λ (r : Run). KeepsNone (place_in r c.brought.inside.own.now.me) inbox) c.run_of-run.ensures c.in-Ok-converse.ensures.others) in
+    (subst (λ (r : Run). KeepsNone (place_in r c.brought.inside.own.now.me) inbox) c.run_of-run.ensures.value c.in-Ok-converse.ensures.others) in
     let talked : HasTalked run b.own.me (g.L.Links.sent c.args.links.now) (g.L.Links.sent c.converse.new.links) c.converse.new.talk.stages =
     subst (λ (p : Party). HasTalked run p (g.L.Links.sent c.args.links.now) (g.L.Links.sent c.converse.new.links) c.converse.new.talk.stages) me
-    (subst (λ (r : Run). HasTalked r c.brought.inside.own.now.me (g.L.Links.sent c.args.links.now) (g.L.Links.sent c.converse.new.links) c.converse.new.talk.stages) c.run_of-run.ensures c.in-Ok-converse.ensures.said) in
+    (subst (λ (r : Run). HasTalked r c.brought.inside.own.now.me (g.L.Links.sent c.args.links.now) (g.L.Links.sent c.converse.new.links) c.converse.new.talk.stages) c.run_of-run.ensures.value c.in-Ok-converse.ensures.said) in
     record {
       inbox = inbox;
       slots = scene.slots;
@@ -53,3 +55,32 @@ returns-in-Ok-report-clause-over g c = λ before told.
       said = all_said b inbox c.converse.new.talk.stages scene done (heard_of inbox) (kept_extends inbox) talked.log talked.each;
       all = talked.all;
     }
+
+pub returns-in-Err-clause-begun : goal.returns-in-Err-clause-begun
+returns-in-Err-clause-begun g c = λ before told. unsaid c.args.brought.now (run_of c.args.brought.now c.args.circuit.now) c.args.brought.now.own.me before (g.L.Links.left c.args.links.now) (g.L.Links.sent c.args.links.now) told
+
+pub returns-in-Err-new_buffer-clause-begun : goal.returns-in-Err-new_buffer-clause-begun
+returns-in-Err-new_buffer-clause-begun g c = λ before told. unsaid c.args.brought.now (run_of c.args.brought.now c.args.circuit.now) c.args.brought.now.own.me before (g.L.Links.left c.args.links.now) (g.L.Links.sent c.args.links.now) told
+
+pub returns-in-Err-converse-clause-begun : goal.returns-in-Err-converse-clause-begun
+returns-in-Err-converse-clause-begun g c = λ before told.
+    let b = c.args.brought.now in
+    let me : c.brought.inside.own.now.me ≡ b.own.me = ap (λ (s : Side). s.own.me) c.brought.view_is in
+    subst (λ (p : Party). HasTalkedSome b (run_of b c.args.circuit.now) p before (g.L.Links.left c.converse.new.links) (g.L.Links.sent c.args.links.now) (g.L.Links.sent c.converse.new.links)) me
+    (subst (λ (r : Run). HasTalkedSome b r c.brought.inside.own.now.me before (g.L.Links.left c.converse.new.links) (g.L.Links.sent c.args.links.now) (g.L.Links.sent c.converse.new.links)) c.run_of-run.ensures.value (c.in-Err-converse.ensures.begun before told))
+
+pub returns-clause-begun : goal.returns-clause-begun
+returns-clause-begun g c = λ before told.
+    let b = c.args.brought.now in
+    let run = run_of b c.args.circuit.now in
+    let inbox = c.converse.new.talk.inbox in
+    let me : c.brought.inside.own.now.me ≡ b.own.me = ap (λ (s : Side). s.own.me) c.brought.view_is in
+    let heard : HasHeard before (g.L.Links.left c.converse.new.links) (place_in run b.own.me) run inbox =
+    subst (λ (p : Party). HasHeard before (g.L.Links.left c.converse.new.links) (place_in run p) run inbox) me
+    (subst (λ (r : Run). HasHeard before (g.L.Links.left c.converse.new.links) (place_in r c.brought.inside.own.now.me) r inbox) c.run_of-run.ensures.value (c.in-Ok-converse.ensures.heard before told)) in
+    let talked : HasTalked run b.own.me (g.L.Links.sent c.args.links.now) (g.L.Links.sent c.converse.new.links) c.converse.new.talk.stages =
+    subst (λ (p : Party). HasTalked run p (g.L.Links.sent c.args.links.now) (g.L.Links.sent c.converse.new.links) c.converse.new.talk.stages) me
+    (subst (λ (r : Run). HasTalked r c.brought.inside.own.now.me (g.L.Links.sent c.args.links.now) (g.L.Links.sent c.converse.new.links) c.converse.new.talk.stages) c.run_of-run.ensures.value c.in-Ok-converse.ensures.said) in
+    all_some b run b.own.me before (g.L.Links.left c.converse.new.links) inbox talked.log (g.L.Links.sent c.args.links.now) (g.L.Links.sent c.converse.new.links)
+    (came_whole run b.own.me inbox before (g.L.Links.left c.converse.new.links) heard)
+    (lawful b inbox c.converse.new.talk.stages c.in-Ok-converse.ensures.scene talked.log talked.each) talked.all

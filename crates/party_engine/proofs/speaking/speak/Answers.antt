@@ -1,8 +1,10 @@
 use Rattle.std.proofs.Common.{◌∙◌, arith}
 use Rattle.peer_streams.proofs.Exchanged.{answers}
+use Rattle.peer_streams.proofs.Left.{left-kept}
 use Rattle.peer_streams.proofs.Taken.{shows-nothing}
-use Rattle.party_engine.proofs.Hearing.{still_scene, still_begun, has_kept, said_kept, begun_kept}
+use Rattle.party_engine.proofs.Hearing.{still_scene, has_kept, said_kept, begun_kept}
 use Rattle.party_engine.proofs.Kept.{begun_so}
+use Rattle.party_engine.proofs.Refused.{came_so, said_some}
 use Rattle.party_engine.proofs.speaking.speak.Goals as goal
 
 pub returns-in-Err-clause-shown : goal.returns-in-Err-clause-shown
@@ -29,13 +31,20 @@ events-preserved g c =
       never_falls = omega (arith, c.listen.ensures.never_falls, c.go_on.ensures.never_falls, far.never_falls);
     }
 
-pub returns-in-Err-listen-clause-begun : goal.returns-in-Err-listen-clause-begun
-returns-in-Err-listen-clause-begun g c = λ before had.
+pub returns-in-Err-clause-begun : goal.returns-in-Err-clause-begun
+returns-in-Err-clause-begun g c = λ sent before had taken.
     let far = c.events.invariant in
-    let begun = begun_so c.args.brought.now c.events.talk.inbox c.go_on.new.stages before (g.L.Links.sent c.go_on.new.links) c.in-Ok-false.ensures.scene (c.in-Ok-false.ensures.said before (far.said before had)) in
-    begun_kept c.args.brought.now c.listen.new.inbox before (g.L.Links.sent c.go_on.new.links) (g.L.Links.sent c.listen.new.links)
-    (still_begun c.args.brought.now c.events.talk.inbox c.listen.new.inbox before (g.L.Links.sent c.go_on.new.links) begun c.listen.ensures.still)
-    c.listen.ensures.sent
+    let came = came_so c.args.place (g.L.Links.closed c.events.links) c.events.talk.inbox c.events.talk.peers.items before (g.L.Links.left c.events.links) (g.L.Links.left c.go_on.new.links) far.peers (far.taken before taken) (left-kept (g.L.Links.left c.events.links) (g.L.Links.left c.go_on.new.links) c.go_on.ensures.left) in
+    said_some c.args.brought.now c.args.place c.events.talk.inbox before (g.L.Links.left c.go_on.new.links) sent (g.L.Links.sent c.go_on.new.links) came (c.in-Err.ensures.begun sent (far.said sent had))
+
+pub returns-in-Err-listen-clause-begun : goal.returns-in-Err-listen-clause-begun
+returns-in-Err-listen-clause-begun g c = λ sent before had taken.
+    let far = c.events.invariant in
+    let begun = begun_so c.args.brought.now c.events.talk.inbox c.go_on.new.stages sent (g.L.Links.sent c.go_on.new.links) c.in-Ok-false.ensures.scene (c.in-Ok-false.ensures.said sent (far.said sent had)) in
+    let came = came_so c.args.place (g.L.Links.closed c.events.links) c.events.talk.inbox c.events.talk.peers.items before (g.L.Links.left c.go_on.new.links) (g.L.Links.left c.listen.new.links) far.peers
+    (has_kept before (g.L.Links.left c.events.links) (g.L.Links.left c.go_on.new.links) c.args.place c.events.talk.inbox c.events.talk.peers.items (far.taken before taken) c.go_on.ensures.left) c.listen.ensures.left in
+    said_some c.args.brought.now c.args.place c.events.talk.inbox before (g.L.Links.left c.listen.new.links) sent (g.L.Links.sent c.listen.new.links) came
+    (begun_kept c.args.brought.now c.events.talk.inbox sent (g.L.Links.sent c.go_on.new.links) (g.L.Links.sent c.listen.new.links) begun c.listen.ensures.sent)
 
 pub returns-in-Err-listen-clause-shown : goal.returns-in-Err-listen-clause-shown
 returns-in-Err-listen-clause-shown g c = λ before had.

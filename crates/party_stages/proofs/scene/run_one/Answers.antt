@@ -15,6 +15,15 @@ run-requires-clause-serves c =
     let here : c.task-task.result.now.gate ≡ c.args.gate = scene.progress.gate c.args.gate c.task-task.result.now c.task-task.ensures in
     serves b.plan (me_of b) c.task-task.result.now.gate b.own b.part scene.serves scene.unkeyed (subst (λ g. g < length b.plan.gates) (sym here) ready.inside)
 
+pub run-requires-clause-all : goal.run-requires-clause-all
+run-requires-clause-all c =
+    let b : Side = record { plan = c.brought.inside.plan.now; own = c.brought.inside.own.now; part = c.brought.inside.part.now } in
+    let p = c.args.stages.now in
+    let scene : IsScene b c.args.inbox.now p = subst (λ (s : Side). IsScene s c.args.inbox.now p) (sym c.brought.view_is) c.requires.scene in
+    let ready : IsReady b c.args.inbox.now p c.args.gate = subst (λ (s : Side). IsReady s c.args.inbox.now p c.args.gate) (sym c.brought.view_is) c.requires.ready in
+    let here : c.task-task.result.now.gate ≡ c.args.gate = scene.progress.gate c.args.gate c.task-task.result.now c.task-task.ensures in
+    rw (here, c.wires.ensures) (ready.all c.task-task.result.now c.task-task.ensures)
+
 pub returns-clause-ran : goal.returns-clause-ran
 returns-clause-ran c =
     let b : Side = record { plan = c.brought.inside.plan.now; own = c.brought.inside.own.now; part = c.brought.inside.part.now } in

@@ -8,6 +8,7 @@ use Rattle.peer_streams.specs.Reading.{PeerRead, HasRead}
 use Rattle.peer_streams.proofs.Counting.{nearer-bytes, nearer-closed}
 use Rattle.peer_streams.proofs.Lists.{map_set_same}
 use Rattle.peer_streams.proofs.Options.{both_ok, both_err, always_ok, all_ok}
+use Rattle.peer_streams.proofs.Left.{left-kept, left-cut}
 use Rattle.peer_streams.proofs.Taken.{shows-nothing, closes-early, closes, bytes-show, bytes-taken, read-more, peers-more, names-of}
 use Rattle.peer_streams.proofs.taking.take_event.Goals as goal
 
@@ -130,3 +131,15 @@ returns-in-Closed-clause-nearer g c =
 pub returns-in-Failed-clause-shown : goal.returns-in-Failed-clause-shown
 returns-in-Failed-clause-shown g c = λ before far.
     inr (inl (refl, shows-nothing c.args.place (g.L.Links.closed c.args.links.now) (g.L.Links.closed c.take.new.self) c.args.inbox.now c.args.peers.now.items c.requires.peers before (g.L.Links.left c.args.links.now) (g.L.Links.left c.take.new.self) far c.in-Failed.ensures.moves c.in-Failed.ensures.closes))
+
+pub returns-in-Bytes-clause-left : goal.returns-in-Bytes-clause-left
+returns-in-Bytes-clause-left g c = left-cut (g.L.Links.left c.args.links.now) (g.L.Links.left c.take.new.self) c.in-Bytes.from.0 (take c.in-Bytes.count c.take.new.into) c.in-Bytes.ensures.moves.2
+
+pub returns-in-Closed-clause-left : goal.returns-in-Closed-clause-left
+returns-in-Closed-clause-left g c = left-kept (g.L.Links.left c.args.links.now) (g.L.Links.left c.take.new.self) c.in-Closed.ensures.moves.0
+
+pub returns-in-Failed-clause-left : goal.returns-in-Failed-clause-left
+returns-in-Failed-clause-left g c = left-kept (g.L.Links.left c.args.links.now) (g.L.Links.left c.take.new.self) c.in-Failed.ensures.moves
+
+pub returns-in-NoMemory-clause-left : goal.returns-in-NoMemory-clause-left
+returns-in-NoMemory-clause-left g c = left-kept (g.L.Links.left c.args.links.now) (g.L.Links.left c.take.new.self) c.in-NoMemory.ensures.moves

@@ -1,0 +1,2 @@
+pub mod CircuitLemmas
+pub mod TellingLemmas
