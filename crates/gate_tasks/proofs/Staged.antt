@@ -13,7 +13,7 @@ use Rattle.plan_gates.specs.Plan.{Gates, IsPlan}
 use Rattle.plan_gates.specs.Messages.{words, vectors, messages_of}
 use Rattle.share_types.specs.Wires.{includes}
 use Rattle.joint_run.specs.Payload.{word_bytes, word_in, vectors_bytes, vector_in}
-use Rattle.joint_run.specs.Party.{Own, Value, WordShare, VectorShare, Told, Payload, Heard, Hand, Rounds, hand, word, vector, width, triple, bit_triple, given_word, given_vector, kept_word, kept_vector, opened_word, opened_vector, left_word, right_word, left_vector, right_vector, gate_value, gate_sends, silence}
+use Rattle.joint_run.specs.Party.{Own, Value, WordShare, VectorShare, Told, Payload, Hand, Rounds, hand, word, vector, width, triple, bit_triple, given_word, given_vector, kept_word, kept_vector, opened_word, opened_vector, left_word, right_word, left_vector, right_vector, gate_value, gate_sends, silence}
 use Rattle.gate_tasks.specs.Stage.{senders}
 use Rattle.gate_tasks.specs.ByValue.{word_at, vector_at, opened_words, opened_vectors, formed, given_out, value_from, hears_at, is_owned}
 use Rattle.gate_tasks.specs.declared.value.Value.{Value as ValueInMemory}

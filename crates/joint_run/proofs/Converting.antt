@@ -1,9 +1,15 @@
--- A plan that has no gate of keys has none of a conversion.
+-- A plan that has no gate of keys has none of a conversion, and then no party enters a share.
 use Rattle.std.proofs.Common.{◌≡◌, Bool, true, false, ◌||◌, List, [], ◌∷◌, refl}
 use Rattle.std.specs.List.{list_any}
 use Rattle.std.proofs.lemmas.Bool.{or_parts}
 use Rattle.plan_gates.specs.Gate.{Kind, Gate, ShareAOnline, ShareBOnline, BToA, is_of_keys, is_conversion}
+use Rattle.plan_gates.specs.Gate.{gate_of}
 use Rattle.plan_gates.specs.Plan.{Gates, has_keys, has_conversions}
+use Rattle.plan_gates.specs.Plain.{Outside}
+use Rattle.plan_gates.proofs.KeyLemmas.{unconverted_at}
+use Rattle.joint_run.specs.Party.{Own}
+use Rattle.joint_run.specs.Joint.{Payloads}
+use Rattle.joint_run.specs.Parts.{AreShares}
 
 no_kind : (kind : Kind) → is_of_keys kind ≡ false → is_conversion kind ≡ false
 no_kind (ShareAOnline party x m) none = cc
@@ -22,3 +28,9 @@ no_gate (gate ∷ gates) none =
 
 pub unconverted : (plan : Gates) → has_keys plan ≡ false → has_conversions plan ≡ false
 unconverted plan none = no_gate plan.gates none
+
+pub no_shares : (plan : Gates) (owns : List Own) (table : Payloads) (outside : Outside) → has_conversions plan ≡ false → AreShares plan owns table outside
+no_shares plan owns table outside none = record {
+  words = λ o party x m w there p h. (let contrary = unconverted_at plan o (gate_of (ShareAOnline party x m) w) none there in absurd (cc));
+  vectors = λ o party x m w there p h. (let contrary = unconverted_at plan o (gate_of (ShareBOnline party x m) w) none there in absurd (cc));
+}

@@ -4,12 +4,15 @@ use Rattle.std.proofs.Math.Path.{fun_ext}
 use Rattle.std.specs.Prelude.{slice_index, get_or, bit_and, ◌==◌}
 use Rattle.std.specs.Int.{bit_at}
 use Rattle.share_types.specs.declared.needs.Needs.{Needs}
-use Rattle.share_types.specs.declared.needs.Kind.TheVariants.{Mult, Bit, Key}
+use Rattle.share_types.specs.declared.needs.Kind.TheVariants.{Mult, Bit, Shared, Key}
 use Rattle.share_types.specs.declared.records.MultTriple.{MultTriple}
 use Rattle.share_types.specs.Sums.{sum_to, total, xor_to, xor_total}
 use Rattle.share_types.proofs.Parties.{sum_to_same, xor_to_same}
 use Rattle.share_types.specs.declared.records.KeyBit.{KeyBit}
-use Rattle.share_types.specs.Keys.{bit, times, key_at, parity_to, AreKeyBit}
+use Rattle.share_types.specs.declared.records.SharedBit.{SharedBit}
+use Rattle.share_types.specs.Bits.{once}
+use Rattle.share_convert.specs.Convert.{shared_bit_at, no_shared_bit}
+use Rattle.share_types.specs.Keys.{bit, times, key_at, parity_to, AreSharedBit, AreKeyBit}
 use Rattle.bmr_keys.specs.Wires.{AreKeyBits, AreOdd}
 use Rattle.bmr_keys.proofs.Labels.{bit-low}
 use Rattle.bmr_keys.proofs.Sums.{parity-same}
@@ -120,6 +123,36 @@ module _ (plan : Gates) (owns : List Own) (bases : Needs) (session : ℕ) (hones
     where
       all : (bit : ℕ) → xor_to n (vectors_at n stock_of bit bit_place wide) ≡ xor_to n (λ p. party.bits_of (at p) bit)
       all bit = xor_to_same n (vectors_at n stock_of bit bit_place wide) (λ p. party.bits_of (at p) bit) (λ p h. bits_are bit p h)
+
+  -- ---- shared bits
+
+  abbrev shared_place : ℕ → ℕ
+  shared_place k = bases.shared + (offset plan g).shared + k
+
+  abbrev dealt_shared : ℕ → ℕ → SharedBit
+  dealt_shared k p = shared_bit_at (own p).part.shared (shared_place k)
+
+  shared_in_stock : (w : ℕ) → (needs_at plan g).shared ≡ w → (k : ℕ) → k < w → shared_place k < honest.counts.shared
+  shared_in_stock w needed k less =
+      let meets = records_never_meet plan g (length plan.gates) Shared inside in
+      let enough = honest.enough_shared in
+      omega (arith, meets, needed, enough, less)
+
+  shared_dealt : (k : ℕ) → shared_place k < honest.counts.shared → AreSharedBit n (dealt_shared k)
+  shared_dealt k less =
+      subst (λ (part : ℕ → Part). AreSharedBit n (λ p. get_or (part p).shared (shared_place k) no_shared_bit))
+      (fun_ext (λ p. get_or_mapped (λ (o : Own). o.part) owns p nobody))
+      (honest.honest.shared (shared_place k) no_part no_shared_bit less)
+
+  shared_is : (k p : ℕ) → p < n → party.shared_bit (at p) k ≡ dealt_shared k p
+  shared_is k p h = ap (λ (b : Needs). shared_bit_at (own p).part.shared (b.shared + (offset plan g).shared + k)) (honest.bases_are p h)
+
+  pub shared_bits_match : (w : ℕ) → (needs_at plan g).shared ≡ w → (k : ℕ) → k < w → AreSharedBit n (λ p. party.shared_bit (at p) k)
+  shared_bits_match w needed k less =
+      ap (λ s. s % 2 ^ 64)
+      (sum_to_same n (λ p. (party.shared_bit (at p) k).word) (λ p. (dealt_shared k p).word) (λ p h. ap (λ (r : SharedBit). r.word) (shared_is k p h)))
+      ∙ (shared_dealt k (shared_in_stock w needed k less)
+      ∙ ap once (parity-same n (λ p. (dealt_shared k p).bit) (λ p. (party.shared_bit (at p) k).bit) (λ p h. ap (λ (r : SharedBit). r.bit) (sym (shared_is k p h)))))
 
   -- ---- key records and offsets
 

@@ -13,8 +13,8 @@ use Rattle.bmr_keys.specs.Wires.{Active, whole, IsActive}
 use Rattle.bmr_keys.specs.Payload.{key_in}
 use Rattle.bmr_eval.specs.Active.{own_active}
 use Rattle.bmr_eval.proofs.Evaluating.{entry-recombines}
-use Rattle.plan_gates.specs.Gate.{Gate, width_at, InOnline}
-use Rattle.plan_gates.specs.Plan.{Gates, IsPlan, IsGate, has_conversions}
+use Rattle.plan_gates.specs.Gate.{Kind, Gate, width_at, mask as mask_use}
+use Rattle.plan_gates.specs.Plan.{Gates, IsPlan, IsOperand}
 use Rattle.joint_run.specs.Party as party
 use Rattle.joint_run.specs.Party.{Own, Value, Hand, Rounds, active_part, keys_of, owner_keys, hand_at, wires_before, gate_value, gate_sends, before, silence}
 use Rattle.joint_run.specs.Payload.{vectors_bytes, vector_in}
@@ -22,13 +22,13 @@ use Rattle.joint_run.specs.Joint.{Payloads, column, IsJoint}
 use Rattle.joint_run.specs.Honest.{own_at, AreHonest}
 use Rattle.joint_run.proofs.Run.{sent, wide_is}
 use Rattle.joint_run.proofs.Sharing.{vector_first}
-use Rattle.joint_run.proofs.Narrow.{owner_masks}
+use Rattle.joint_run.proofs.Narrow.{Enters, owner_masks}
 use Rattle.joint_run.proofs.Keys.{times_low}
 use Rattle.joint_run.proofs.KeyValues.{key-there, key-back, owner-same, listed_active, seen-listed}
 use Rattle.joint_run.proofs.MasksRight.{IsLow, AreParts, operand_fits, operand_small}
 
 module _ (plan : Gates) (owns : List Own) (bases : Needs) (session : ℕ) (table : Payloads)
-    (valid : IsPlan plan) (pure : has_conversions plan ≡ false) (honest : AreHonest plan owns bases session) (joint : IsJoint plan owns table) where
+    (valid : IsPlan plan) (honest : AreHonest plan owns bases session) (joint : IsJoint plan owns table) where
   abbrev n : ℕ
   n = plan.parties
 
@@ -58,12 +58,13 @@ module _ (plan : Gates) (owns : List Own) (bases : Needs) (session : ℕ) (table
   sent_in g r p q gate = sent plan owns table honest.each joint g r p q gate
 
   -- an entry at a gate
-  module _ (g owner k low m width : ℕ) (found : slice_get plan.gates g ≡ Some (record { kind = InOnline owner k low m; width = width })) where
+  module _ (g owner m width : ℕ) (kind : Kind) (value : Hand → ℕ) (enters : Enters kind owner m value) (found : slice_get plan.gates g ≡ Some (record { kind = kind; width = width }))
+      (inside : owner < n) (used : IsOperand plan.gates g (mask_use m)) (as_wide : wide m ≡ width) where
     abbrev gate : Gate
-    gate = record { kind = InOnline owner k low m; width = width }
+    gate = record { kind = kind; width = width }
 
-    is : IsGate plan g gate
-    is = valid.each g gate found
+    entry_sent : (r p q : ℕ) → p < n → q < n → (q ≡ p → ⊥) → table g r q p ≡ get_or (party.entry_sends (at g q) owner m (value (at g q)) (before r (column table q g))) r silence p
+    entry_sent r p q a b apart = sent_in g r p q gate a b apart found ∙ ap (λ sends. get_or sends r silence p) (enters.sends (at g q) (before r (column table q g)))
 
     abbrev parts : ℕ → Mask
     parts p = party.mask (at g p) m
@@ -72,47 +73,46 @@ module _ (plan : Gates) (owns : List Own) (bases : Needs) (session : ℕ) (table
     shares p = (parts p).mask
 
     same_wide : wide m ≡ wide g
-    same_wide = is.fit.0 ∙ sym (wide_is plan g gate found)
+    same_wide = as_wide ∙ sym (wide_is plan g gate found)
 
     fit : AreParts n (wide m) offset parts
-    fit = operand_fits plan owns bases session table valid pure honest joint g m is.uses.0
+    fit = operand_fits plan owns bases session table valid honest joint g m used
 
     small : (p : ℕ) → p < n → shares p < 2 ^ wide g
-    small = operand_small plan owns bases session table valid pure honest joint g m is.uses.0 same_wide
-
-    inside : owner < n
-    inside = is.party
+    small = operand_small plan owns bases session table valid honest joint g m used same_wide
 
     -- the value, and the masked bits that the owner makes
     abbrev x : ℕ
-    x = party.input_bits (at g owner) k low
+    x = value (at g owner)
 
     abbrev by_owner : ℕ → ℕ
-    by_owner p = party.masked_by_owner (at g p) m (party.input_bits (at g p) k low) (λ q. table g 0 q p)
+    by_owner p = party.masked_by_owner (at g p) m (value (at g p)) (λ q. table g 0 q p)
 
     abbrev t : ℕ
     t = by_owner owner
 
     t_small : t < 2 ^ wide g
-    t_small = owner_masks plan owns table valid pure honest.each joint g owner k low m width inside found small
+    t_small = owner_masks plan owns table valid honest.each joint g owner m width kind value enters inside found small
 
     share_sent : (q : ℕ) → q < n → (q ≡ owner → ⊥) → vector_in (wide g) (table g 0 q owner) 0 ≡ shares q
     share_sent q b apart =
         ap (λ bytes. vector_in (wide g) bytes 0)
-        (sent_in g 0 owner q gate inside b apart found ∙ ap (λ me. if me then vectors_bytes (wide g) (shares q ∷ []) else []) (eq-eqb owner owner refl))
+        (entry_sent 0 owner q inside b apart ∙ ap (λ me. if me then vectors_bytes (wide g) (shares q ∷ []) else []) (eq-eqb owner owner refl))
         ∙ vector_first (wide g) (shares q) [] (small q b)
 
     t_is : t ≡ bit_xor x (whole n parts)
     t_is = ap (bit_xor x) (opened_xor n owner shares (λ q. vector_in (wide g) (table g 0 q owner) 0) share_sent)
 
     abbrev masked : ℕ → ℕ
-    masked p = party.masked (at g p) owner m (party.input_bits (at g p) k low) (column table p g)
+    masked p = party.masked (at g p) owner m (value (at g p)) (column table p g)
 
-    masked_by : (p : ℕ) → p < n → (b : Bool) → (p == owner) ≡ b → cond b (by_owner p) (vector_in (wide g) (table g 1 owner p) 0) ≡ t
-    masked_by p h true e = ap by_owner (eqb-true p owner e)
+    masked_by : (p : ℕ) → p < n → (b : Bool) → (p == owner) ≡ b →
+        vector_in (wide g) (cond b (vectors_bytes (wide g) (by_owner p ∷ [])) (table g 1 owner p)) 0 ≡ t
+    masked_by p h true e =
+        ap (λ q. vector_in (wide g) (vectors_bytes (wide g) (by_owner q ∷ [])) 0) (eqb-true p owner e) ∙ vector_first (wide g) t [] t_small
     masked_by p h false e =
         ap (λ bytes. vector_in (wide g) bytes 0)
-        (sent_in g 1 p owner gate h inside (λ same. eqb-false p owner e (sym same)) found
+        (entry_sent 1 p owner h inside (λ same. eqb-false p owner e (sym same))
         ∙ ap (λ me. if me then vectors_bytes (wide g) (t ∷ []) else []) (eq-eqb owner owner refl))
         ∙ vector_first (wide g) t [] t_small
 
@@ -132,7 +132,7 @@ module _ (plan : Gates) (owns : List Own) (bases : Needs) (session : ℕ) (table
         key-there (wide g) (active (masked p) p) i inside_width
         ∙ ap₂ (λ s q. active s q i) (masked_is p h) (sym (eqb-true j p e))
     key_is p i j h inside_width a false e =
-        ap (λ bytes. key_in bytes i) (sent_in g 2 p j gate h a (eqb-false j p e) found)
+        ap (λ bytes. key_in bytes i) (entry_sent 2 p j h a (eqb-false j p e))
         ∙ (key-back (wide g) (active (masked j) j) i (λ c less. active_low (masked j) j c a) inside_width
         ∙ ap (λ s. active s j i) (masked_is j a))
 
@@ -140,13 +140,14 @@ module _ (plan : Gates) (owns : List Own) (bases : Needs) (session : ℕ) (table
     abbrev seen : Active
     seen = record { masked = t; keys = λ i j. active t j i }
 
-    entered_is : (p : ℕ) → p < n → active_part n (gate_value (InOnline owner k low m) (at g p) (column table p g)) ≡ listed_active n (wide g) seen
+    entered_is : (p : ℕ) → p < n → active_part n (gate_value kind (at g p) (column table p g)) ≡ listed_active n (wide g) seen
     entered_is p h =
-        ap₂ (λ (s : ℕ) (ks : List Key). let it : Active = record { masked = s; keys = key_of n ks } in it) (masked_is p h)
-        (owner-same n (wide g) (party.entered (at g p) owner m (party.input_bits (at g p) k low) (column table p g)).keys seen.keys some
+        ap (active_part n) (enters.gives (at g p) (column table p g))
+        ∙ ap₂ (λ (s : ℕ) (ks : List Key). let it : Active = record { masked = s; keys = key_of n ks } in it) (masked_is p h)
+        (owner-same n (wide g) (party.entered (at g p) owner m (value (at g p)) (column table p g)).keys seen.keys some
         (λ i j less a. key_is p i j h less a (j == p) refl))
 
-    pub entry_wire : (p : ℕ) → p < n → IsActive n offset parts x (active_part n (gate_value (InOnline owner k low m) (at g p) (column table p g)))
+    pub entry_wire : (p : ℕ) → p < n → IsActive n offset parts x (active_part n (gate_value kind (at g p) (column table p g)))
     entry_wire p h =
         subst (IsActive n offset parts x) (sym (entered_is p h))
         (seen-listed n (wide g) offset parts parts x seen (entry-recombines n offset parts x t t_is) t_small refl (λ i j less. refl)

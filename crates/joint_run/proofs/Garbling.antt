@@ -13,14 +13,14 @@ use Rattle.boolean_gmw.proofs.Xors.{opened_xor}
 use Rattle.boolean_gmw.proofs.Recombining.{and-recombines}
 use Rattle.bmr_keys.specs.Mask.{Mask, cut}
 use Rattle.bmr_keys.specs.Wires.{whole, AreTimes, AreKeyBits}
-use Rattle.bmr_keys.specs.Payload.{key_in}
+use Rattle.bmr_keys.specs.Payload.{key_bytes, key_in}
 use Rattle.bmr_garble.specs.Product.{product_times}
 use Rattle.bmr_garble.specs.Table.{Entries, entry_place, own_part, garbled_entry, IsGarbled}
 use Rattle.bmr_garble.proofs.Joining.{shares-join}
 use Rattle.bmr_garble.proofs.Products.{product_times-recombine}
 use Rattle.bmr_garble.proofs.Tables.{entry-inside, entry-line, entry-owner}
 use Rattle.plan_gates.specs.Gate.{Gate, width_at, Garble}
-use Rattle.plan_gates.specs.Plan.{Gates, IsPlan, IsGate, has_conversions}
+use Rattle.plan_gates.specs.Plan.{Gates, IsPlan, IsGate}
 use Rattle.plan_gates.specs.Needs.{needs_at, needs_there}
 use Rattle.joint_run.specs.Party as party
 use Rattle.joint_run.specs.Party.{Own, Value, Hand, Rounds, opened_vector, entries_in, keys_of, hand_at, wires_before, gate_value, gate_sends, before, silence}
@@ -47,7 +47,7 @@ place_is n i r j entries h small =
     ∙ (ap₂ (λ a b. entries a b (place % n)) line row ∙ ap (entries i r) (entry-owner n i r j small))
 
 module _ (plan : Gates) (owns : List Own) (bases : Needs) (session : ℕ) (table : Payloads)
-    (valid : IsPlan plan) (pure : has_conversions plan ≡ false) (honest : AreHonest plan owns bases session) (joint : IsJoint plan owns table) where
+    (valid : IsPlan plan) (honest : AreHonest plan owns bases session) (joint : IsJoint plan owns table) where
   abbrev n : ℕ
   n = plan.parties
 
@@ -97,19 +97,19 @@ module _ (plan : Gates) (owns : List Own) (bases : Needs) (session : ℕ) (table
     result p = party.mask (at g p) m
 
     first_fits : AreParts n (wide u) offset first
-    first_fits = operand_fits plan owns bases session table valid pure honest joint g u is.uses.0
+    first_fits = operand_fits plan owns bases session table valid honest joint g u is.uses.0
 
     second_fits : AreParts n (wide v) offset second
-    second_fits = operand_fits plan owns bases session table valid pure honest joint g v is.uses.1.0
+    second_fits = operand_fits plan owns bases session table valid honest joint g v is.uses.1.0
 
     result_fits : AreParts n (wide m) offset result
-    result_fits = operand_fits plan owns bases session table valid pure honest joint g m is.uses.1.1.0
+    result_fits = operand_fits plan owns bases session table valid honest joint g m is.uses.1.1.0
 
     first_small : (p : ℕ) → p < n → (first p).mask < 2 ^ wide g
-    first_small = operand_small plan owns bases session table valid pure honest joint g u is.uses.0 (is.fit.0 ∙ sym wide_here)
+    first_small = operand_small plan owns bases session table valid honest joint g u is.uses.0 (is.fit.0 ∙ sym wide_here)
 
     second_small : (p : ℕ) → p < n → (second p).mask < 2 ^ wide g
-    second_small = operand_small plan owns bases session table valid pure honest joint g v is.uses.1.0 (is.fit.1.0 ∙ sym wide_here)
+    second_small = operand_small plan owns bases session table valid honest joint g v is.uses.1.0 (is.fit.1.0 ∙ sym wide_here)
 
     -- ---- the product of both masks
 
@@ -120,10 +120,10 @@ module _ (plan : Gates) (owns : List Own) (bases : Needs) (session : ℕ) (table
     right p = party.right_mask (at g p) v
 
     left_small : (p : ℕ) → p < n → left p < 2 ^ wide g
-    left_small = mask_left_small plan owns table valid pure honest.each joint g u first_small
+    left_small = mask_left_small plan owns table valid honest.each joint g u first_small
 
     right_small : (p : ℕ) → p < n → right p < 2 ^ wide g
-    right_small = mask_right_small plan owns table valid pure honest.each joint g v second_small
+    right_small = mask_right_small plan owns table valid honest.each joint g v second_small
 
     abbrev d : ℕ
     d = xor_to n left
@@ -170,10 +170,14 @@ module _ (plan : Gates) (owns : List Own) (bases : Needs) (session : ℕ) (table
     abbrev f : ℕ
     f = xor_to n covered
 
-    f_is : (p : ℕ) → p < n → opened_vector (at g p) (covered p) (λ q. table g 1 q p) 0 ≡ f
-    f_is p h = opened_xor n p covered (λ q. vector_in (wide g) (table g 1 q p) 0)
-        (λ q b apart. ap (λ bytes. vector_in (wide g) bytes 0) (sent_in g 1 p q gate h b apart found)
-        ∙ vector_first (wide g) (covered q) [] (covered_small plan owns table valid pure honest.each joint g u v m width found first_small second_small q b))
+    told : (q : ℕ) → q < n → vector_in (wide g) (vectors_bytes (wide g) (covered q ∷ [])) 0 ≡ covered q
+    told q b = vector_first (wide g) (covered q) [] (covered_small plan owns table valid honest.each joint g u v m width found first_small second_small q b)
+
+    f_is : (p : ℕ) → p < n → opened_vector (at g p) (vector_in (wide g) (vectors_bytes (wide g) (covered p ∷ [])) 0) (λ q. table g 1 q p) 0 ≡ f
+    f_is p h =
+        ap (λ part. opened_vector (at g p) part (λ q. table g 1 q p) 0) (told p h)
+        ∙ opened_xor n p covered (λ q. vector_in (wide g) (table g 1 q p) 0)
+        (λ q b apart. ap (λ bytes. vector_in (wide g) bytes 0) (sent_in g 1 p q gate h b apart found) ∙ told q b)
 
     records : AreKeyBits n (wide g) offset (λ p. party.key_record (at g p))
     records = records_match plan owns bases session honest (wires g) g here keys_needed
@@ -235,12 +239,15 @@ module _ (plan : Gates) (owns : List Own) (bases : Needs) (session : ℕ) (table
     abbrev at_place : ℕ → ℕ → ℕ
     at_place q k = share q (k / n / 4) (k / n % 4) (k % n)
 
+    share_back : (q k : ℕ) → q < n → k < count → key_in (key_bytes (party.own_table (at g q) u v m (column table q g))) k ≡ at_place q k
+    share_back q k a less = key-back count (at_place q) k (λ c b. share_low q (c / n / 4) (c / n % 4) (c % n) a (mod-lt c some)) less
+
     part_is : (p q k : ℕ) → p < n → q < n → k < count → (b : Bool) → (q == p) ≡ b →
-        cond b (key_at (party.own_table (at g p) u v m (column table p g)) k) (key_in (table g 2 q p) k) ≡ at_place q k
-    part_is p q k h a less true same = key-there count (at_place p) k less ∙ ap (λ s. at_place s k) (sym (eqb-true q p same))
+        key_in (cond b (key_bytes (party.own_table (at g p) u v m (column table p g))) (table g 2 q p)) k ≡ at_place q k
+    part_is p q k h a less true same =
+        ap (λ s. key_in (key_bytes (party.own_table (at g s) u v m (column table s g))) k) (sym (eqb-true q p same)) ∙ share_back q k a less
     part_is p q k h a less false same =
-        ap (λ bytes. key_in bytes k) (sent_in g 2 p q gate h a (eqb-false q p same) found)
-        ∙ key-back count (at_place q) k (λ c b. share_low q (c / n / 4) (c / n % 4) (c % n) a (mod-lt c some)) less
+        ap (λ bytes. key_in bytes k) (sent_in g 2 p q gate h a (eqb-false q p same) found) ∙ share_back q k a less
 
     pub garbled : (p : ℕ) → p < n →
         IsGarbled n (wide g) offset g first second result (whole n first) (whole n second) (whole n result)

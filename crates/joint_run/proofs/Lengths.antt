@@ -7,18 +7,17 @@ use Rattle.std.proofs.lemmas.Bool.{ltb-true}
 use Rattle.byteorder.specs.Numbers.{length-bytes_high_first}
 use Rattle.byteorder.specs.Endian.{big_bytes}
 use Rattle.message_demux.specs.Slots.{vector_bytes}
-use Rattle.plan_gates.specs.Gate.{Kind, Gate, width_at, InA, MulA, OutA, InB, AndB, OutB, InOnline, ShareAOnline, ShareBOnline, Garble, BToA, is_conversion}
+use Rattle.plan_gates.specs.Gate.{Kind, Gate, width_at, InA, MulA, OutA, InB, AndB, OutB, InOnline, ShareAOnline, ShareBOnline, Garble, BToA, low_width}
 use Rattle.plan_gates.specs.declared.draft.Sizes.{Sizes}
-use Rattle.plan_gates.specs.Plan.{Gates, sizes_of, has_conversions}
-use Rattle.plan_gates.specs.Messages.{words, vectors, messages_of, messages_at, message, are_two}
-use Rattle.plan_gates.proofs.KeyLemmas.{unconverted_at}
+use Rattle.plan_gates.specs.Plan.{Gates, sizes_of}
+use Rattle.plan_gates.specs.Messages.{words, vectors, messages_of, messages_at, message, are_two, entry_messages}
 use Rattle.share_types.specs.Wires.{includes}
 use Rattle.share_types.specs.declared.keys.Key.{Key}
 use Rattle.share_types.proofs.Parties.{length-each}
 use Rattle.bmr_keys.specs.Payload.{key_bytes}
 use Rattle.bmr_keys.proofs.Payloads.{keys-length}
 use Rattle.joint_run.specs.Payload.{word_bytes, vectors_bytes}
-use Rattle.joint_run.specs.Party.{Own, Hand, Rounds, Inbox, party_sends, width, hand_at, before, silence, gate_sends, sends_at, word, vector, given_word, given_vector, left_word, right_word, left_vector, right_vector, parties, keys_of, mask, masked_by_owner, input_bits, left_mask, right_mask, covered_product}
+use Rattle.joint_run.specs.Party.{Own, Hand, Rounds, Inbox, party_sends, width, hand_at, before, silence, gate_sends, sends_at, word, vector, given_word, given_vector, left_word, right_word, left_vector, right_vector, parties, keys_of, mask, masked_by_owner, input_bits, left_mask, right_mask, covered_product, entry_sends, word_bits, vector_bits, low, covered_vector}
 use Rattle.joint_run.specs.Honest.{nobody}
 use Rattle.joint_run.specs.Joint.{Payloads, column, sent_by, IsJoint}
 use Rattle.joint_run.specs.Laws.{length_of, PayloadsHaveTheirLengths}
@@ -64,54 +63,60 @@ key_words w = omega arith
 table_words : (w n : ℕ) → 16 * (4 * w * n) ≡ 8 * (8 * n * w)
 table_words w n = omega arith
 
--- what is sent in a round of a gate, and the message that is stated
-fits : (kind : Kind) → is_conversion kind ≡ false → (sizes : Sizes) (h : Hand) (got : Rounds) (to r : ℕ) → width h ≡ sizes.width → parties h ≡ sizes.parties →
-    length (get_or (gate_sends kind h got) r silence to) ≡ length_of (unwrap_or (slice_get (messages_of kind sizes h.me to) r) None)
-fits (InA party k) other sizes h got to zero e u =
-    let ws : List ℕ = given_word h to ∷ [] in
-    chosen_words (party == h.me) (word_bytes ws) 1 (words-length ws) ∙ ap (λ b. length_of (if b then Some (words 1) else None)) (turned party h.me)
-fits (MulA x y) other sizes h got to zero e u = words-length (left_word h x ∷ right_word h y ∷ [])
-fits (OutA x receiver) other sizes h got to zero e u =
-    let ws : List ℕ = word h x ∷ [] in
-    chosen_words (includes receiver to) (word_bytes ws) 1 (words-length ws)
-fits (InB party k at) other sizes h got to zero e u =
-    let vs : List ℕ = given_vector h to ∷ [] in
-    chosen (party == h.me) (vectors_bytes (width h) vs) (width h) 1 (vectors-length (width h) vs)
-    ∙ ap₂ (λ b v. length_of (if b then Some (vectors 1 v) else None)) (turned party h.me) e
-fits (AndB x y) other sizes h got to zero e u =
-    vectors-length (width h) (left_vector h x ∷ right_vector h y ∷ []) ∙ ap (λ v. 2 * vector_bytes v) e
-fits (OutB x receiver) other sizes h got to zero e u =
-    let vs : List ℕ = vector h x ∷ [] in
-    chosen (includes receiver to) (vectors_bytes (width h) vs) (width h) 1 (vectors-length (width h) vs)
-    ∙ ap (λ v. length_of (if includes receiver to then Some (vectors 1 v) else None)) e
-fits (InOnline party k at m) other sizes h got to zero e u =
+-- what is sent of an entry
+entry_fits : (party m x : ℕ) (sizes : Sizes) (h : Hand) (got : Rounds) (to r : ℕ) → width h ≡ sizes.width →
+    length (get_or (entry_sends h party m x got) r silence to) ≡ length_of (unwrap_or (slice_get (entry_messages party sizes.width h.me to) r) None)
+entry_fits party m x sizes h got to zero e =
     let vs : List ℕ = (mask h m).mask ∷ [] in
     chosen (to == party) (vectors_bytes (width h) vs) (width h) 1 (vectors-length (width h) vs)
     ∙ ap (λ v. length_of (if to == party then Some (vectors 1 v) else None)) e
-fits (InOnline party k at m) other sizes h got to (suc zero) e u =
-    let vs : List ℕ = masked_by_owner h m (input_bits h k at) (got 0) ∷ [] in
+entry_fits party m x sizes h got to (suc zero) e =
+    let vs : List ℕ = masked_by_owner h m x (got 0) ∷ [] in
     chosen (h.me == party) (vectors_bytes (width h) vs) (width h) 1 (vectors-length (width h) vs)
     ∙ ap (λ v. length_of (if h.me == party then Some (vectors 1 v) else None)) e
-fits (InOnline party k at m) other sizes h got to (suc (suc zero)) e u =
+entry_fits party m x sizes h got to (suc (suc zero)) e =
     keys_bytes-length (width h) _ ∙ (key_words (width h) ∙ ap (λ v. 8 * (2 * v)) e)
-fits (Garble x y m) other sizes h got to zero e u =
+entry_fits party m x sizes h got to (suc (suc (suc r))) e = refl
+
+-- what is sent in a round of a gate, and the message that is stated
+fits : (kind : Kind) → (sizes : Sizes) (h : Hand) (got : Rounds) (to r : ℕ) → width h ≡ sizes.width → parties h ≡ sizes.parties → low_width h.plan.gates kind ≡ sizes.low →
+    length (get_or (gate_sends kind h got) r silence to) ≡ length_of (unwrap_or (slice_get (messages_of kind sizes h.me to) r) None)
+fits (InA party k) sizes h got to zero e u l =
+    let ws : List ℕ = given_word h to ∷ [] in
+    chosen_words (party == h.me) (word_bytes ws) 1 (words-length ws) ∙ ap (λ b. length_of (if b then Some (words 1) else None)) (turned party h.me)
+fits (MulA x y) sizes h got to zero e u l = words-length (left_word h x ∷ right_word h y ∷ [])
+fits (OutA x receiver) sizes h got to zero e u l =
+    let ws : List ℕ = word h x ∷ [] in
+    chosen_words (includes receiver to) (word_bytes ws) 1 (words-length ws)
+fits (InB party k at) sizes h got to zero e u l =
+    let vs : List ℕ = given_vector h to ∷ [] in
+    chosen (party == h.me) (vectors_bytes (width h) vs) (width h) 1 (vectors-length (width h) vs)
+    ∙ ap₂ (λ b v. length_of (if b then Some (vectors 1 v) else None)) (turned party h.me) e
+fits (AndB x y) sizes h got to zero e u l =
+    vectors-length (width h) (left_vector h x ∷ right_vector h y ∷ []) ∙ ap (λ v. 2 * vector_bytes v) e
+fits (OutB x receiver) sizes h got to zero e u l =
+    let vs : List ℕ = vector h x ∷ [] in
+    chosen (includes receiver to) (vectors_bytes (width h) vs) (width h) 1 (vectors-length (width h) vs)
+    ∙ ap (λ v. length_of (if includes receiver to then Some (vectors 1 v) else None)) e
+fits (InOnline party k at m) sizes h got to r e u l = entry_fits party m (input_bits h k at) sizes h got to r e
+fits (ShareAOnline party x m) sizes h got to r e u l = entry_fits party m (word_bits h x) sizes h got to r e
+fits (ShareBOnline party x m) sizes h got to r e u l = entry_fits party m (vector_bits h x) sizes h got to r e
+fits (BToA x) sizes h got to zero e u l = vectors-length (low h x) (covered_vector h x ∷ []) ∙ ap (λ v. 1 * vector_bytes v) l
+fits (BToA x) sizes h got to (suc r) e u l = refl
+fits (Garble x y m) sizes h got to zero e u l =
     vectors-length (width h) (left_mask h x ∷ right_mask h y ∷ []) ∙ ap (λ v. 2 * vector_bytes v) e
-fits (Garble x y m) other sizes h got to (suc zero) e u =
+fits (Garble x y m) sizes h got to (suc zero) e u l =
     vectors-length (width h) (covered_product h x y (got 0) ∷ []) ∙ ap (λ v. 1 * vector_bytes v) e
-fits (Garble x y m) other sizes h got to (suc (suc zero)) e u =
+fits (Garble x y m) sizes h got to (suc (suc zero)) e u l =
     keys_bytes-length (4 * width h * parties h) _ ∙ (table_words (width h) (parties h) ∙ ap₂ (λ v n. 8 * (8 * n * v)) e u)
-fits (InA party k) other sizes h got to (suc r) e u = refl
-fits (MulA x y) other sizes h got to (suc r) e u = refl
-fits (OutA x receiver) other sizes h got to (suc r) e u = refl
-fits (InB party k at) other sizes h got to (suc r) e u = refl
-fits (AndB x y) other sizes h got to (suc r) e u = refl
-fits (OutB x receiver) other sizes h got to (suc r) e u = refl
-fits (InOnline party k at m) other sizes h got to (suc (suc (suc r))) e u = refl
-fits (Garble x y m) other sizes h got to (suc (suc (suc r))) e u = refl
-fits (ShareAOnline party x m) other sizes h got to r e u = cc
-fits (ShareBOnline party x m) other sizes h got to r e u = cc
-fits (BToA x) other sizes h got to r e u = cc
-fits _ other sizes h got to r e u = refl
+fits (InA party k) sizes h got to (suc r) e u l = refl
+fits (MulA x y) sizes h got to (suc r) e u l = refl
+fits (OutA x receiver) sizes h got to (suc r) e u l = refl
+fits (InB party k at) sizes h got to (suc r) e u l = refl
+fits (AndB x y) sizes h got to (suc r) e u l = refl
+fits (OutB x receiver) sizes h got to (suc r) e u l = refl
+fits (Garble x y m) sizes h got to (suc (suc (suc r))) e u l = refl
+fits _ sizes h got to r e u l = refl
 
 none_there : {X : Type 0} {x : X} → None ≡ Some x → ⊥
 none_there h = cc
@@ -126,31 +131,31 @@ first_of n from to both = at (nat_lt from n) refl
         false_true : false ≡ true → ⊥
         false_true h = cc
 
-gate_fits : (plan : Gates) → has_conversions plan ≡ false → (g r to : ℕ) (h : Hand) (got : Rounds) (o : Option Gate) → slice_get plan.gates g ≡ o → width h ≡ width_at plan.gates g → parties h ≡ plan.parties →
+gate_fits : (plan : Gates) (g r to : ℕ) (h : Hand) (got : Rounds) (o : Option Gate) → slice_get plan.gates g ≡ o → width h ≡ width_at plan.gates g → parties h ≡ plan.parties → h.plan.gates ≡ plan.gates →
     length (get_or (sends_at o h got) r silence to) ≡ length_of (unwrap_or (slice_get (messages_at plan o h.me to) r) None)
-gate_fits plan pure g r to h got None found e u = refl
-gate_fits plan pure g r to h got (Some gate) found e u =
-    fits gate.kind (unconverted_at plan g gate pure found) (sizes_of plan gate) h got to r (e ∙ ap (λ o. unwrap_or (option_map (λ (x : Gate). x.width) o) 0) found) u
+gate_fits plan g r to h got None found e u l = refl
+gate_fits plan g r to h got (Some gate) found e u l =
+    fits gate.kind (sizes_of plan gate) h got to r (e ∙ ap (λ o. unwrap_or (option_map (λ (x : Gate). x.width) o) 0) found) u (ap (λ gates. low_width gates gate.kind) l)
 
 -- what a party sends has the length that the plan states, whatever it was sent
-sends_by : (plan : Gates) → has_conversions plan ≡ false → (me : ℕ) (own : Own) (inbox : Inbox) (g r to : ℕ) (b : Bool) → are_two plan.parties me to ≡ b →
+sends_by : (plan : Gates) (me : ℕ) (own : Own) (inbox : Inbox) (g r to : ℕ) (b : Bool) → are_two plan.parties me to ≡ b →
     length (party_sends plan me own inbox g r to) ≡ length_of (message plan me to g r)
-sends_by plan pure me own inbox g r to true both =
-    rw both (gate_fits plan pure g r to (hand_at plan me own inbox g) (before r (inbox g)) (slice_get plan.gates g) refl refl refl)
-sends_by plan pure me own inbox g r to false both = rw both refl
+sends_by plan me own inbox g r to true both =
+    rw both (gate_fits plan g r to (hand_at plan me own inbox g) (before r (inbox g)) (slice_get plan.gates g) refl refl refl refl)
+sends_by plan me own inbox g r to false both = rw both refl
 
-pub sends_fit : (plan : Gates) → has_conversions plan ≡ false → (me : ℕ) (own : Own) (inbox : Inbox) (g r to : ℕ) →
+pub sends_fit : (plan : Gates) (me : ℕ) (own : Own) (inbox : Inbox) (g r to : ℕ) →
     length (party_sends plan me own inbox g r to) ≡ length_of (message plan me to g r)
-sends_fit plan pure me own inbox g r to = sends_by plan pure me own inbox g r to (are_two plan.parties me to) refl
+sends_fit plan me own inbox g r to = sends_by plan me own inbox g r to (are_two plan.parties me to) refl
 
-module _ (plan : Gates) (owns : List Own) (table : Payloads) (pure : has_conversions plan ≡ false) (count : length owns ≡ plan.parties) (joint : IsJoint plan owns table) where
+module _ (plan : Gates) (owns : List Own) (table : Payloads) (count : length owns ≡ plan.parties) (joint : IsJoint plan owns table) where
   sent_fits : (g r from to : ℕ) (b : Bool) → are_two plan.parties from to ≡ b → (o : Option Own) → slice_get owns from ≡ o →
       length (sent_by plan from o (column table from) g r to) ≡ length_of (message plan from to g r)
   sent_fits g r from to true both None there = absurd (none_there (sym there ∙ there_is owns from nobody (subst (λ m. from < m) (sym count) (first_of plan.parties from to both))))
   sent_fits g r from to false both None there = rw both refl
-  sent_fits g r from to b both (Some own) there = sends_fit plan pure from own (column table from) g r to
+  sent_fits g r from to b both (Some own) there = sends_fit plan from own (column table from) g r to
 
 pub payloads_have_their_lengths : PayloadsHaveTheirLengths
-payloads_have_their_lengths plan owns table pure count joint g r from to =
+payloads_have_their_lengths plan owns table count joint g r from to =
     ap (λ (bytes : List ℕ). length bytes) (joint g r from to)
-    ∙ sent_fits plan owns table pure count joint g r from to (are_two plan.parties from to) refl (slice_get owns from) refl
+    ∙ sent_fits plan owns table count joint g r from to (are_two plan.parties from to) refl (slice_get owns from) refl

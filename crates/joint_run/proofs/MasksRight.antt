@@ -13,7 +13,7 @@ use Rattle.bmr_keys.specs.Wires.{whole, IsMask}
 use Rattle.bmr_keys.proofs.Masks.{fresh-recombine, constant-recombines, xor-recombines, flip-recombines, slice-recombines, join-recombines, zero_keys-are_even}
 use Rattle.bmr_garble.specs.Product.{key_bit_at}
 use Rattle.plan_gates.specs.Gate.{Kind, Gate, Mask as mask_given, mask as mask_use, gives, width_at, KeyMask, ConstMask, XorMask, FlipMask, SliceMask, JoinMask}
-use Rattle.plan_gates.specs.Plan.{Gates, IsPlan, IsGate, IsOperand, has_conversions}
+use Rattle.plan_gates.specs.Plan.{Gates, IsPlan, IsGate, IsOperand}
 use Rattle.plan_gates.specs.Needs.{needs_at, needs_there}
 use Rattle.joint_run.specs.Party as party
 use Rattle.joint_run.specs.Party.{Own, Value, Hand, Rounds, mask_part, keys_of, owner_keys, hand_at, wires_before, party_value, value_at, gate_value}
@@ -109,7 +109,7 @@ listed_parts n w offset u x some is small low = record {
 }
 
 module _ (plan : Gates) (owns : List Own) (bases : Needs) (session : ℕ) (table : Payloads)
-    (valid : IsPlan plan) (pure : has_conversions plan ≡ false) (honest : AreHonest plan owns bases session) (joint : IsJoint plan owns table) where
+    (valid : IsPlan plan) (honest : AreHonest plan owns bases session) (joint : IsJoint plan owns table) where
   abbrev n : ℕ
   n = plan.parties
 
@@ -160,7 +160,7 @@ module _ (plan : Gates) (owns : List Own) (bases : Needs) (session : ℕ) (table
   mask_small g gate found is =
       xor_small n (wide g) (λ p. (made g gate.kind p).mask) (λ p h.
       subst (λ v. (mask_part n v).mask < 2 ^ wide g) (ap (λ o. value_at o (at g p) (column table p g)) found)
-      (subst (λ given. bits_in n given (value g p) < 2 ^ wide g) is (narrow plan owns table valid pure honest.each joint g gate found p h)))
+      (subst (λ given. bits_in n given (value g p) < 2 ^ wide g) is (narrow plan owns table valid honest.each joint g gate found p h)))
 
   made_parts : (g : ℕ) (kind : Kind) → AreFit g → IsGate plan g (record { kind = kind; width = wide g }) →
       slice_get plan.gates g ≡ Some (record { kind = kind; width = wide g }) → gives kind ≡ mask_given →
@@ -221,4 +221,4 @@ module _ (plan : Gates) (owns : List Own) (bases : Needs) (session : ℕ) (table
   operand_small g x (less, earlier, found, is) same p h =
       subst (λ v. (mask_part n v).mask < 2 ^ wide g) (sym (wire_is plan owns table honest.each joint g x p less))
       (subst (λ w. (masks x p).mask < 2 ^ w) same
-      (subst (λ given. bits_in n given (value x p) < 2 ^ wide x) is (narrow plan owns table valid pure honest.each joint x earlier found p h)))
+      (subst (λ given. bits_in n given (value x p) < 2 ^ wide x) is (narrow plan owns table valid honest.each joint x earlier found p h)))

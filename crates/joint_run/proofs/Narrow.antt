@@ -16,13 +16,12 @@ use Rattle.message_demux.specs.declared.slots.Shape.TheVariants.{Vectors}
 use Rattle.message_demux.specs.Slots as slots
 use Rattle.message_demux.specs.Slots.{vector_bytes, overflows, has_high_bits}
 use Rattle.plan_gates.specs.Gate.{Kind, Gate, Given, Use, Vector, Mask, Online, vector as vector_use, mask as mask_use, online as online_use, gives, width_at, InA, MulA, OutA, InB, ConstB, XorB, XorConstB, SliceB, JoinB, AndB, OutB, KeyMask, ConstMask, XorMask, FlipMask, SliceMask, JoinMask, InOnline, ZeroOnline, XorOnline, SliceOnline, JoinOnline, Garble, EvalY, YToB, ShareAOnline, ShareBOnline, BToA}
-use Rattle.plan_gates.specs.Plan.{Gates, IsPlan, IsGate, IsOperand, sizes_of, has_conversions}
-use Rattle.plan_gates.proofs.KeyLemmas.{unconverted_at}
+use Rattle.plan_gates.specs.Plan.{Gates, IsPlan, IsGate, IsOperand, sizes_of}
 use Rattle.plan_gates.specs.declared.message.Message.{Message}
-use Rattle.plan_gates.specs.Messages.{words, vectors, messages_of, messages_at, are_two}
+use Rattle.plan_gates.specs.Messages.{words, vectors, messages_of, messages_at, are_two, entry_messages}
 use Rattle.share_types.specs.Wires.{includes}
 use Rattle.joint_run.specs.Party as party
-use Rattle.joint_run.specs.Party.{Own, Value, Hand, vector_share, mask_part, active_part, Told, hand_at, wires_before, party_value, value_at, gate_value, sends_at, gate_sends, before, silence, opened_vector}
+use Rattle.joint_run.specs.Party.{Own, Value, Hand, vector_share, mask_part, active_part, Told, hand_at, wires_before, party_value, value_at, gate_value, sends_at, gate_sends, before, silence, opened_vector, Rounds}
 use Rattle.joint_run.specs.Joint.{Payloads, column, IsJoint}
 use Rattle.joint_run.specs.Honest.{own_at}
 use Rattle.joint_run.specs.Laws.{PayloadsHaveTheirShapes}
@@ -101,7 +100,25 @@ bits_in n Mask v = (mask_part n v).mask
 bits_in n Online v = (active_part n v).masked
 bits_in n _ v = 0
 
-module _ (plan : Gates) (owns : List Own) (table : Payloads) (valid : IsPlan plan) (pure : has_conversions plan ≡ false) (each : length owns ≡ plan.parties) (joint : IsJoint plan owns table) where
+-- ---- entries: a party enters what it makes of what it has at hand
+
+pub record Enters (kind : Kind) (owner m : ℕ) (value : Hand → ℕ) : Type 0 where
+  pub small : (h : Hand) → value h < 2 ^ party.width h
+  pub sends : (h : Hand) (got : Rounds) → gate_sends kind h got ≡ party.entry_sends h owner m (value h) got
+  pub gives : (h : Hand) (got : Rounds) → gate_value kind h got ≡ party.online_value h (party.entered h owner m (value h) got)
+
+-- of an input, and of its share of a word or of a vector
+pub enters_input : (owner k low m : ℕ) → Enters (InOnline owner k low m) owner m (λ h. party.input_bits h k low)
+enters_input owner k low m =
+    record { small = λ h. mod-lt (party.input h k / 2 ^ low) (pow_pos (party.width h)); sends = λ h got. refl; gives = λ h got. refl }
+
+pub enters_share : (owner x m : ℕ) → Enters (ShareAOnline owner x m) owner m (λ h. party.word_bits h x)
+enters_share owner x m = record { small = λ h. mod-lt (party.word h x) (pow_pos (party.width h)); sends = λ h got. refl; gives = λ h got. refl }
+
+pub enters_bits : (owner x m : ℕ) → Enters (ShareBOnline owner x m) owner m (λ h. party.vector_bits h x)
+enters_bits owner x m = record { small = λ h. mod-lt (party.vector h x) (pow_pos (party.width h)); sends = λ h got. refl; gives = λ h got. refl }
+
+module _ (plan : Gates) (owns : List Own) (table : Payloads) (valid : IsPlan plan) (each : length owns ≡ plan.parties) (joint : IsJoint plan owns table) where
   abbrev n : ℕ
   n = plan.parties
 
@@ -249,35 +266,40 @@ module _ (plan : Gates) (owns : List Own) (table : Payloads) (valid : IsPlan pla
       (fresh_small g p)
 
   -- entries
-  abbrev masked_by : ℕ → ℕ → ℕ → ℕ → ℕ → ℕ
-  masked_by g p k low m = party.masked_by_owner (at g p) m (party.input_bits (at g p) k low) (λ q. table g 0 q p)
+  abbrev masked_by : ℕ → ℕ → ℕ → (Hand → ℕ) → ℕ
+  masked_by g p m value = party.masked_by_owner (at g p) m (value (at g p)) (λ q. table g 0 q p)
 
-  pub owner_masks : (g owner k low m width : ℕ) → owner < n → slice_get plan.gates g ≡ Some (record { kind = InOnline owner k low m; width = width }) →
-      AreSmall g (λ p. (party.mask (at g p) m).mask) → masked_by g owner k low m < 2 ^ wide g
-  owner_masks g owner k low m width inside found small =
-      let masks : ℕ → ℕ = λ q. (party.mask (at g q) m).mask in
-      let bytes : (q : ℕ) → q < n → (q ≡ owner → ⊥) → table g 0 q owner ≡ vectors_bytes (wide g) (masks q ∷ []) =
-      λ q b apart. sent_in g 0 owner q (record { kind = InOnline owner k low m; width = width }) inside b apart found
-      ∙ ap (λ me. if me then vectors_bytes (wide g) (masks q ∷ []) else []) (eq-eqb owner owner refl) in
-      xor_lt (wide g) (party.input_bits (at g owner) k low) (opened_vector (at g owner) (masks owner) (λ q. table g 0 q owner) 0)
-      (mod-lt (party.input (at g owner) k / 2 ^ low) (pow_pos (wide g)))
-      (opened_small g owner (masks owner) (λ q. vector_in (wide g) (table g 0 q owner) 0) (small owner inside)
-      (λ q b apart. subst (λ v. v < 2 ^ wide g)
-      (sym (ap (λ s. vector_in (wide g) s 0) (bytes q b apart) ∙ vector_first (wide g) (masks q) [] (small q b)))
-      (small q b)))
+  module _ (g owner m width : ℕ) (kind : Kind) (value : Hand → ℕ) (enters : Enters kind owner m value) (inside : owner < n) (found : slice_get plan.gates g ≡ Some (record { kind = kind; width = width }))
+      (small : AreSmall g (λ p. (party.mask (at g p) m).mask)) where
+    entry_sent : (r p q : ℕ) → p < n → q < n → (q ≡ p → ⊥) → table g r q p ≡ get_or (party.entry_sends (at g q) owner m (value (at g q)) (before r (column table q g))) r silence p
+    entry_sent r p q a b apart =
+        sent_in g r p q (record { kind = kind; width = width }) a b apart found
+        ∙ ap (λ sends. get_or sends r silence p) (enters.sends (at g q) (before r (column table q g)))
 
-  entry_small : (g owner k low m width p : ℕ) → p < n → owner < n → slice_get plan.gates g ≡ Some (record { kind = InOnline owner k low m; width = width }) →
-      AreSmall g (λ q. (party.mask (at g q) m).mask) →
-      (b : Bool) → (p == owner) ≡ b → cond b (masked_by g p k low m) (vector_in (wide g) (table g 1 owner p) 0) < 2 ^ wide g
-  entry_small g owner k low m width p h inside found small true e =
-      subst (λ q. masked_by g q k low m < 2 ^ wide g) (sym (eqb-true p owner e)) (owner_masks g owner k low m width inside found small)
-  entry_small g owner k low m width p h inside found small false e =
-      let t = masked_by g owner k low m in
-      let t_small = owner_masks g owner k low m width inside found small in
-      let bytes : table g 1 owner p ≡ vectors_bytes (wide g) (t ∷ []) =
-      sent_in g 1 p owner (record { kind = InOnline owner k low m; width = width }) h inside (λ is. eqb-false p owner e (sym is)) found
-      ∙ ap (λ me. if me then vectors_bytes (wide g) (t ∷ []) else []) (eq-eqb owner owner refl) in
-      subst (λ v. v < 2 ^ wide g) (sym (ap (λ s. vector_in (wide g) s 0) bytes ∙ vector_first (wide g) t [] t_small)) t_small
+    pub owner_masks : masked_by g owner m value < 2 ^ wide g
+    owner_masks =
+        let masks : ℕ → ℕ = λ q. (party.mask (at g q) m).mask in
+        let bytes : (q : ℕ) → q < n → (q ≡ owner → ⊥) → table g 0 q owner ≡ vectors_bytes (wide g) (masks q ∷ []) =
+        λ q b apart. entry_sent 0 owner q inside b apart
+        ∙ ap (λ me. if me then vectors_bytes (wide g) (masks q ∷ []) else []) (eq-eqb owner owner refl) in
+        xor_lt (wide g) (value (at g owner)) (opened_vector (at g owner) (masks owner) (λ q. table g 0 q owner) 0)
+        (enters.small (at g owner))
+        (opened_small g owner (masks owner) (λ q. vector_in (wide g) (table g 0 q owner) 0) (small owner inside)
+        (λ q b apart. subst (λ v. v < 2 ^ wide g)
+        (sym (ap (λ s. vector_in (wide g) s 0) (bytes q b apart) ∙ vector_first (wide g) (masks q) [] (small q b)))
+        (small q b)))
+
+    entry_small : (p : ℕ) → p < n → (b : Bool) → (p == owner) ≡ b →
+        vector_in (wide g) (cond b (vectors_bytes (wide g) (masked_by g p m value ∷ [])) (table g 1 owner p)) 0 < 2 ^ wide g
+    entry_small p h true e =
+        let t_small = subst (λ q. masked_by g q m value < 2 ^ wide g) (sym (eqb-true p owner e)) owner_masks in
+        subst (λ v. v < 2 ^ wide g) (sym (vector_first (wide g) (masked_by g p m value) [] t_small)) t_small
+    entry_small p h false e =
+        let t = masked_by g owner m value in
+        let bytes : table g 1 owner p ≡ vectors_bytes (wide g) (t ∷ []) =
+        entry_sent 1 p owner h inside (λ is. eqb-false p owner e (sym is))
+        ∙ ap (λ me. if me then vectors_bytes (wide g) (t ∷ []) else []) (eq-eqb owner owner refl) in
+        subst (λ v. v < 2 ^ wide g) (sym (ap (λ s. vector_in (wide g) s 0) bytes ∙ vector_first (wide g) t [] owner_masks)) owner_masks
 
   -- all gates
   joined_small : (g x y : ℕ) (a b : ℕ) → wide g ≡ wide x + wide y → a < 2 ^ wide x → b < 2 ^ wide y → a + 2 ^ wide x * b < 2 ^ wide g
@@ -314,7 +336,14 @@ module _ (plan : Gates) (owns : List Own) (table : Payloads) (valid : IsPlan pla
       joined_small g u v ((party.mask (at g p) u).mask % 2 ^ wide u) (party.mask (at g p) v).mask (wide_is plan g (record { kind = JoinMask u v; width = width }) found ∙ is.fit)
       (mod-lt (party.mask (at g p) u).mask (pow_pos (wide u))) (operand g (mask_use v) ih is.uses.1.0 p h)
   value_small g (InOnline owner k low m) width ih found is p h =
-      entry_small g owner k low m width p h is.party found (fitting g (mask_use m) width (InOnline owner k low m) ih found is.uses.0 is.fit.0) (p == owner) refl
+      entry_small g owner m width (InOnline owner k low m) (λ h. party.input_bits h k low) (enters_input owner k low m) is.party found
+      (fitting g (mask_use m) width (InOnline owner k low m) ih found is.uses.0 is.fit.0) p h (p == owner) refl
+  value_small g (ShareAOnline owner x m) width ih found is p h =
+      entry_small g owner m width (ShareAOnline owner x m) (λ h. party.word_bits h x) (enters_share owner x m) is.party found
+      (fitting g (mask_use m) width (ShareAOnline owner x m) ih found is.uses.1.0 is.fit.1.0) p h (p == owner) refl
+  value_small g (ShareBOnline owner x m) width ih found is p h =
+      entry_small g owner m width (ShareBOnline owner x m) (λ h. party.vector_bits h x) (enters_bits owner x m) is.party found
+      (fitting g (mask_use m) width (ShareBOnline owner x m) ih found is.uses.1.0 is.fit.1.0) p h (p == owner) refl
   value_small g ZeroOnline width ih found is p h = pow_pos (wide g)
   value_small g (XorOnline u v) width ih found is p h =
       xor_lt (wide g) (party.online (at g p) u).masked (party.online (at g p) v).masked
@@ -340,6 +369,28 @@ module _ (plan : Gates) (owns : List Own) (table : Payloads) (valid : IsPlan pla
   operand_narrow g used is = operand g used (λ k less. narrow k) is
 
   -- ---- payloads
+
+  module _ (g owner o width : ℕ) (kind : Kind) (value : Hand → ℕ) (enters : Enters kind owner o value) (inside : owner < n) (found : slice_get plan.gates g ≡ Some (record { kind = kind; width = width }))
+      (small : AreSmall g (λ p. (party.mask (at g p) o).mask)) where
+    entry_shaped : (r from to : ℕ) → from < n → to < n → (from ≡ to → ⊥) → (m : Message) →
+        unwrap_or (slice_get (entry_messages owner width from to) r) None ≡ Some m → has_high_bits m.shape (table g r from to) ≡ false
+    entry_shaped zero from to a b apart m e =
+        let vs : List ℕ = (party.mask (at g from) o).mask ∷ [] in
+        vectors_shaped (to == owner) (wide g) width 1 vs m (table g 0 from to) (wide_is plan g (record { kind = kind; width = width }) found) refl
+        (small from a, tt)
+        (entry_sent g owner o width kind value enters inside found small 0 to from b a apart) e
+    entry_shaped (suc zero) from to a b apart m e = told_by (from == owner) refl e
+      where
+        told_by : (c : Bool) → (from == owner) ≡ c → (if c then Some (vectors 1 width) else None) ≡ Some m → has_high_bits m.shape (table g 1 from to) ≡ false
+        told_by true is e =
+            let vs : List ℕ = masked_by g from o value ∷ [] in
+            let t_small = owner_masks g owner o width kind value enters inside found small in
+            vectors_shaped true (wide g) width 1 vs m (table g 1 from to) (wide_is plan g (record { kind = kind; width = width }) found) refl
+            (subst (λ q. masked_by g q o value < 2 ^ wide g) (sym (eqb-true from owner is)) t_small, tt)
+            (entry_sent g owner o width kind value enters inside found small 1 to from b a apart ∙ ap (λ me. if me then vectors_bytes (wide g) vs else []) is) e
+        told_by false is e = cc
+    entry_shaped (suc (suc zero)) from to a b apart m e = words_shaped true (2 * width) m (table g 2 from to) e
+    entry_shaped (suc (suc (suc r))) from to a b apart m e = cc
 
   kind_shaped : (g r from to : ℕ) (kind : Kind) (width : ℕ) → from < n → to < n → (from ≡ to → ⊥) →
       slice_get plan.gates g ≡ Some (record { kind = kind; width = width }) → (m : Message) →
@@ -375,24 +426,28 @@ module _ (plan : Gates) (owns : List Own) (table : Payloads) (valid : IsPlan pla
   kind_shaped g (suc r) from to (InB owner k low) width a b apart found m e = cc
   kind_shaped g (suc r) from to (AndB x y) width a b apart found m e = cc
   kind_shaped g (suc r) from to (OutB x receiver) width a b apart found m e = cc
-  kind_shaped g zero from to (InOnline owner k low o) width a b apart found m e =
-      let vs : List ℕ = (party.mask (at g from) o).mask ∷ [] in
+  kind_shaped g r from to (InOnline owner k low o) width a b apart found m e =
       let is = valid.each g (record { kind = InOnline owner k low o; width = width }) found in
-      vectors_shaped (to == owner) (wide g) width 1 vs m (table g 0 from to) (wide_is plan g (record { kind = InOnline owner k low o; width = width }) found) refl
-      (fitting g (mask_use o) width (InOnline owner k low o) (λ k less. narrow k) found is.uses.0 is.fit.0 from a, tt)
-      (sent_in g 0 to from (record { kind = InOnline owner k low o; width = width }) b a apart found) e
-  kind_shaped g (suc zero) from to (InOnline owner k low o) width a b apart found m e = told_by (from == owner) refl e
-    where
-      told_by : (c : Bool) → (from == owner) ≡ c → (if c then Some (vectors 1 width) else None) ≡ Some m → has_high_bits m.shape (table g 1 from to) ≡ false
-      told_by true is e =
-          let vs : List ℕ = masked_by g from k low o ∷ [] in
-          let here = valid.each g (record { kind = InOnline owner k low o; width = width }) found in
-          let small = owner_masks g owner k low o width here.party found (fitting g (mask_use o) width (InOnline owner k low o) (λ k less. narrow k) found here.uses.0 here.fit.0) in
-          vectors_shaped true (wide g) width 1 vs m (table g 1 from to) (wide_is plan g (record { kind = InOnline owner k low o; width = width }) found) refl
-          (subst (λ q. masked_by g q k low o < 2 ^ wide g) (sym (eqb-true from owner is)) small, tt)
-          (sent_in g 1 to from (record { kind = InOnline owner k low o; width = width }) b a apart found ∙ ap (λ me. if me then vectors_bytes (wide g) vs else []) is) e
-      told_by false is e = cc
-  kind_shaped g (suc (suc zero)) from to (InOnline owner k low o) width a b apart found m e = words_shaped true (2 * width) m (table g 2 from to) e
+      entry_shaped g owner o width (InOnline owner k low o) (λ h. party.input_bits h k low) (enters_input owner k low o) is.party found
+      (fitting g (mask_use o) width (InOnline owner k low o) (λ k less. narrow k) found is.uses.0 is.fit.0) r from to a b apart m e
+  kind_shaped g r from to (ShareAOnline owner x o) width a b apart found m e =
+      let is = valid.each g (record { kind = ShareAOnline owner x o; width = width }) found in
+      entry_shaped g owner o width (ShareAOnline owner x o) (λ h. party.word_bits h x) (enters_share owner x o) is.party found
+      (fitting g (mask_use o) width (ShareAOnline owner x o) (λ k less. narrow k) found is.uses.1.0 is.fit.1.0) r from to a b apart m e
+  kind_shaped g r from to (ShareBOnline owner x o) width a b apart found m e =
+      let is = valid.each g (record { kind = ShareBOnline owner x o; width = width }) found in
+      entry_shaped g owner o width (ShareBOnline owner x o) (λ h. party.vector_bits h x) (enters_bits owner x o) is.party found
+      (fitting g (mask_use o) width (ShareBOnline owner x o) (λ k less. narrow k) found is.uses.1.0 is.fit.1.0) r from to a b apart m e
+  kind_shaped g zero from to (BToA x) width a b apart found m e =
+      let is = valid.each g (record { kind = BToA x; width = width }) found in
+      let vs : List ℕ = party.covered_vector (at g from) x ∷ [] in
+      vectors_shaped true (wide x) (wide x) 1 vs m (table g 0 from to) refl refl (
+        xor_lt (wide x) (party.vector (at g from) x) _ (operand g (vector_use x) (λ k less. narrow k) is.uses.0 from a)
+            (number-each_below (wide x) (λ i. (party.shared_bit (at g from) i).bit)),
+        tt,
+      )
+      (sent_in g 0 to from (record { kind = BToA x; width = width }) b a apart found) e
+  kind_shaped g (suc r) from to (BToA x) width a b apart found m e = cc
   kind_shaped g zero from to (Garble u v w) width a b apart found m e =
       let vs : List ℕ = party.left_mask (at g from) u ∷ party.right_mask (at g from) v ∷ [] in
       let is = valid.each g (record { kind = Garble u v w; width = width }) found in
@@ -411,12 +466,6 @@ module _ (plan : Gates) (owns : List Own) (table : Payloads) (valid : IsPlan pla
       )
       (sent_in g 1 to from (record { kind = Garble u v w; width = width }) b a apart found) e
   kind_shaped g (suc (suc zero)) from to (Garble u v w) width a b apart found m e = words_shaped true (8 * n * width) m (table g 2 from to) e
-  kind_shaped g r from to (ShareAOnline owner x o) width a b apart found m e =
-      let no = unconverted_at plan g (record { kind = ShareAOnline owner x o; width = width }) pure found in cc
-  kind_shaped g r from to (ShareBOnline owner x o) width a b apart found m e =
-      let no = unconverted_at plan g (record { kind = ShareBOnline owner x o; width = width }) pure found in cc
-  kind_shaped g r from to (BToA x) width a b apart found m e =
-      let no = unconverted_at plan g (record { kind = BToA x; width = width }) pure found in cc
   kind_shaped g r from to _ width a b apart found m e = cc
 
   gate_shaped : (g r from to : ℕ) (o : Option Gate) → slice_get plan.gates g ≡ o → from < n → to < n → (from ≡ to → ⊥) → (m : Message) →
@@ -433,5 +482,5 @@ module _ (plan : Gates) (owns : List Own) (table : Payloads) (valid : IsPlan pla
       gate_shaped g r from to (slice_get plan.gates g) refl parts.0 parts.1 parts.2 m e
 
 pub payloads_have_their_shapes : PayloadsHaveTheirShapes
-payloads_have_their_shapes plan owns table valid pure each joint g r from to m e =
-    shaped plan owns table valid pure each joint g r from to (are_two plan.parties from to) refl m e
+payloads_have_their_shapes plan owns table valid each joint g r from to m e =
+    shaped plan owns table valid each joint g r from to (are_two plan.parties from to) refl m e

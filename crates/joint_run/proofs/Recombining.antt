@@ -1,34 +1,36 @@
 -- In a joint run with honest records, the parties' values of each gate recombine to its plain number.
 use Rattle.std.proofs.Common.{ℕ, ◌≡◌, ◌<◌, ◌%◌, ◌^◌, List, length, Some, refl, sym, ◌∙◌, ap, ap₂, subst, false}
 use Rattle.std.specs.Prelude.{slice_get, slice_index, bit_xor}
+use Rattle.std.proofs.Math.Nat.{mod-eq_of_lt}
 use Rattle.share_types.specs.declared.needs.Needs.{Needs}
 use Rattle.share_types.specs.Sums.{sum_to, xor_to}
 use Rattle.share_types.specs.Wires.{includes}
 use Rattle.share_types.proofs.Parties.{sum_to_same, xor_to_same}
-use Rattle.plan_gates.specs.Gate.{Kind, Gate, Given, Word, Vector, Mask, Online, Table, OutA, OutB, gives, width_at, word as word_use, vector as vector_use, mask as mask_use, online as online_use}
+use Rattle.plan_gates.specs.Gate.{Kind, Gate, Given, Word, Vector, Mask, Online, Table, OutA, OutB, gives, width_at, word as word_use, vector as vector_use, mask as mask_use, online as online_use, ShareAOnline, ShareBOnline, gate_of as gate_is}
 use Rattle.plan_gates.specs.Gate as spec
-use Rattle.plan_gates.specs.Plan.{Gates, IsPlan, IsOperand, IsWire, has_conversions}
-use Rattle.plan_gates.specs.Plain.{Outside, number_at, number_of, seen_of}
+use Rattle.plan_gates.specs.Plan.{Gates, IsPlan, IsOperand, IsWire, StandsAt}
+use Rattle.plan_gates.specs.Plain.{Outside, number_at, number_of, seen_of, plain_numbers}
 use Rattle.bmr_keys.specs.Wires.{IsActive}
 use Rattle.joint_run.specs.Party as party
 use Rattle.joint_run.specs.Party.{Own, Value, Hand, Rounds, wires_before, party_value, value_at, gate_value, word_share, vector_share, mask_part, active_part, Told}
 use Rattle.joint_run.specs.Joint.{Payloads, column, IsJoint}
 use Rattle.joint_run.specs.Honest.{own_at, offset_of, AreHonest, AreInputs, RecombineBy, Recombine}
-use Rattle.joint_run.specs.Laws.{EveryGateRecombines, EveryWireRecombines}
+use Rattle.joint_run.specs.Parts.{AreShares, value_in, share_of, share_at, with_shares}
+use Rattle.joint_run.specs.Laws.{EveryGateRecombines, EveryWireRecombines, SharesAreLawful}
 use Rattle.joint_run.proofs.Causal.{strong}
-use Rattle.joint_run.proofs.Numbers.{plain, numbered as number, plain_get, plain_is}
+use Rattle.joint_run.proofs.Numbers.{plain, numbered as number, plain_get, plain_is, number_small}
 use Rattle.joint_run.proofs.Narrow.{operand_narrow}
 use Rattle.joint_run.proofs.WiresRight.{seen_wire, wire_right, wire_inside, wire_fits}
 use Rattle.joint_run.proofs.Sharing.{cut}
 use Rattle.joint_run.proofs.Run.{word_is, vector_is, sent, wide_is}
 use Rattle.joint_run.proofs.Standing.{hands, Hear, Stand}
-use Rattle.joint_run.proofs.Dealing.{triples_multiply, bit_triples_multiply}
+use Rattle.joint_run.proofs.Dealing.{triples_multiply, bit_triples_multiply, shared_bits_match}
 use Rattle.joint_run.proofs.WordsRight.{word_right, told_word}
 use Rattle.joint_run.proofs.VectorsRight.{vector_right, told_vector}
 use Rattle.mot_base.proofs.Lists.{inside_of, same_some as some_is}
 
 module _ (plan : Gates) (owns : List Own) (bases : Needs) (session : ℕ) (outside : Outside) (table : Payloads)
-    (valid : IsPlan plan) (pure : has_conversions plan ≡ false) (honest : AreHonest plan owns bases session) (inputs_are : AreInputs plan owns outside.inputs) (joint : IsJoint plan owns table) where
+    (valid : IsPlan plan) (honest : AreHonest plan owns bases session) (inputs_are : AreInputs plan owns outside.inputs) (parts_are : AreShares plan owns table outside) (joint : IsJoint plan owns table) where
   abbrev n : ℕ
   n = plan.parties
 
@@ -89,19 +91,20 @@ module _ (plan : Gates) (owns : List Own) (bases : Needs) (session : ℕ) (outsi
   wire_operand g m o wire below before p a =
       subst (λ x. IsActive n offset (λ q. party.mask (at g q) m) x (party.online (at g p) o))
       (sym (ap₂ bit_xor (plain_is plan outside g o before) (plain_is plan outside g m below)))
-      (seen_wire plan owns bases session outside table valid pure honest inputs_are joint g g m o p (bit_xor (numbered o) (numbered m)) below before
-      (wire_right plan owns bases session outside table valid pure honest inputs_are joint m o wire p a))
+      (seen_wire plan owns bases session outside table valid honest inputs_are parts_are joint g g m o p (bit_xor (numbered o) (numbered m)) below before
+      (wire_right plan owns bases session outside table valid honest inputs_are parts_are joint m o wire p a))
 
   stands : (g : ℕ) (gate : Gate) → AreRight g → slice_get plan.gates g ≡ Some gate → Stand plan gate.kind g outside.inputs (plain plan outside g) (at g)
   stands g gate right found = record {
     words = λ x is. word_operand g x right is;
     vectors = λ x is. vector_operand g x right is;
     wires = λ m o wire below before p a. wire_operand g m o wire below before p a;
-    masks = λ x is. operand_narrow plan owns table valid pure honest.each joint g (mask_use x) is;
-    onlines = λ x is. operand_narrow plan owns table valid pure honest.each joint g (online_use x) is;
+    masks = λ x is. operand_narrow plan owns table valid honest.each joint g (mask_use x) is;
+    onlines = λ x is. operand_narrow plan owns table valid honest.each joint g (online_use x) is;
     brought = λ t takes. inputs_are g gate t found takes;
     triples = λ some. triples_multiply plan owns bases session honest (wires g) g (inside_of plan.gates g gate found) some;
     bit_triples = λ needed. bit_triples_multiply plan owns bases session honest (wires g) g (inside_of plan.gates g gate found) needed;
+    shared_bits = λ w needed k less. shared_bits_match plan owns bases session honest (wires g) g (inside_of plan.gates g gate found) w needed k less;
   }
 
   -- ---- all kinds
@@ -112,7 +115,7 @@ module _ (plan : Gates) (owns : List Own) (bases : Needs) (session : ℕ) (outsi
   word_case : (g : ℕ) (gate : Gate) → AreRight g → slice_get plan.gates g ≡ Some gate → gives gate.kind ≡ Word → RecombineBy Word gate n (value g) (numbered g)
   word_case g gate right found word =
       ap (λ s. s % 2 ^ 64) (sum_to_same n (λ p. word_share (value g p)) (λ p. word_share (gate_value gate.kind (at g p) (got g p))) (λ p h. ap word_share (value_is g p gate found)))
-      ∙ (word_right plan valid pure outside (plain plan outside g) g own (wires g) (got g) gate.kind gate.width found (heard g gate found) (stands g gate right found) word
+      ∙ (word_right plan valid outside (plain plan outside g) g own (wires g) (got g) gate.kind gate.width found (heard g gate found) (stands g gate right found) word
       ∙ sym (ap (λ o. number_at plan.gates outside (plain plan outside g) o % 2 ^ 64) found
       ∙ cut (number_of gate.kind (seen_of plan.gates outside (plain plan outside g) gate.kind)) gate.width ((valid.each g gate found).word word)))
 
@@ -131,7 +134,7 @@ module _ (plan : Gates) (owns : List Own) (bases : Needs) (session : ℕ) (outsi
   told_case g (OutA x to) width right found told p a =
       let gate : Gate = record { kind = OutA x to; width = width } in
       value_is g p gate found
-      ∙ told_word plan valid pure outside (plain plan outside g) g own (wires g) (got g) x width p to a found (heard g gate found) (stands g gate right found) (includes to p) refl
+      ∙ told_word plan valid outside (plain plan outside g) g own (wires g) (got g) x width p to a found (heard g gate found) (stands g gate right found) (includes to p) refl
   told_case g (OutB x to) width right found told p a =
       let gate : Gate = record { kind = OutB x to; width = width } in
       value_is g p gate found
@@ -156,18 +159,85 @@ module _ (plan : Gates) (owns : List Own) (bases : Needs) (session : ℕ) (outsi
       subst (λ v. Recombine here n (value g) v) is (strong Right step g here found)
 
 pub every_gate_recombines : EveryGateRecombines
-every_gate_recombines plan owns bases session outside table valid pure honest given joint =
-    whole plan owns bases session outside table valid pure honest given joint
+every_gate_recombines plan owns bases session outside table valid honest given parts_are joint =
+    whole plan owns bases session outside table valid honest given parts_are joint
 
 pub every_wire_recombines : EveryWireRecombines
-every_wire_recombines plan owns bases session outside table valid pure honest given joint m o wire p h =
+every_wire_recombines plan owns bases session outside table valid honest given parts_are joint m o wire p h =
     let count = length plan.gates in
     let places = wire_inside plan m o wire in
-    let fit = wire_fits plan owns bases session outside table valid pure honest given joint m o wire in record {
+    let fit = wire_fits plan owns bases session outside table valid honest given parts_are joint m o wire in record {
       zeros = fit.zeros;
       active = subst (λ x. IsActive plan.parties (offset_of owns) (λ q. mask_part plan.parties (party_value plan q (own_at owns q) (column table q) m)) x
           (active_part plan.parties (party_value plan p (own_at owns p) (column table p) o)))
           (sym (ap₂ bit_xor (plain_is plan outside count o places.1) (plain_is plan outside count m places.0)))
-          (wire_right plan owns bases session outside table valid pure honest given joint m o wire p h);
+          (wire_right plan owns bases session outside table valid honest given parts_are joint m o wire p h);
       shares = fit.shares;
     }
+
+-- ---- the parties' own shares
+
+module _ (plan : Gates) (owns : List Own) (bases : Needs) (session : ℕ) (inputs : List ℕ) (table : Payloads)
+    (valid : IsPlan plan) (honest : AreHonest plan owns bases session) (given : AreInputs plan owns inputs) (joint : IsJoint plan owns table) where
+  abbrev outside : Outside
+  outside = with_shares plan owns table inputs
+
+  abbrev of_all : ℕ → ℕ → Value
+  of_all x p = value_in plan owns table p x
+
+  part_is : (given_as : Given) (o x : ℕ) → IsOperand plan.gates o (record { given = given_as; gate = x }) → (p : ℕ) → outside.parts p x ≡ share_of given_as (of_all x p)
+  part_is given_as o x (less, gate, found, is) p =
+      ap (λ o. share_at o (of_all x p)) found ∙ ap (λ t. share_of t (of_all x p)) is
+
+  shares : AreShares plan owns table outside
+  shares = record {
+    words = λ o party x m w found p h. part_is Word o x (valid.each o (gate_is (ShareAOnline party x m) w) found).uses.0 p;
+    vectors = λ o party x m w found p h. part_is Vector o x (valid.each o (gate_is (ShareBOnline party x m) w) found).uses.0 p;
+  }
+
+  abbrev count : ℕ
+  count = length plan.gates
+
+  recombined : (x : ℕ) (gate : Gate) → slice_get plan.gates x ≡ Some gate → Recombine gate plan.parties (of_all x) (number plan outside x)
+  recombined x gate found =
+      every_gate_recombines plan owns bases session outside table valid honest given shares joint x gate (number plan outside x) found
+      (plain_get plan outside count x (inside_of plan.gates x gate found))
+
+  number_here : (x : ℕ) (gate : Gate) → slice_get plan.gates x ≡ Some gate → slice_index (plain_numbers plan outside) x ≡ number plan outside x
+  number_here x gate found = plain_is plan outside count x (inside_of plan.gates x gate found)
+
+  lawful_words : (o party x m w : ℕ) → StandsAt plan.gates o (ShareAOnline party x m) w →
+      sum_to plan.parties (λ p. outside.parts p x) % 2 ^ 64 ≡ slice_index (plain_numbers plan outside) x
+  lawful_words o party x m w stands =
+      let used = (valid.each o (gate_is (ShareAOnline party x m) w) stands).uses.0 in
+      let gate = used.1 in
+      let found = used.2 in
+      let word = used.3 in
+      let sums : sum_to plan.parties (λ p. word_share (of_all x p)) % 2 ^ 64 ≡ number plan outside x % 2 ^ 64 =
+      subst (λ t. RecombineBy t gate plan.parties (of_all x) (number plan outside x)) word (recombined x gate found) in
+      let wide : gate.width ≡ 64 = (valid.each x gate found).word word in
+      let small : number plan outside x < 2 ^ 64 = subst (λ w. number plan outside x < 2 ^ w) (wide_is plan x gate found ∙ wide) (number_small plan outside x gate found) in
+      ap (λ s. s % 2 ^ 64) (sum_to_same plan.parties (λ p. outside.parts p x) (λ p. word_share (of_all x p)) (λ p h. part_is Word o x used p))
+      ∙ (sums ∙ (mod-eq_of_lt small ∙ sym (number_here x gate found)))
+
+  lawful_vectors : (o party x m w : ℕ) → StandsAt plan.gates o (ShareBOnline party x m) w →
+      xor_to plan.parties (λ p. outside.parts p x) % 2 ^ w ≡ slice_index (plain_numbers plan outside) x
+  lawful_vectors o party x m w stands =
+      let is = valid.each o (gate_is (ShareBOnline party x m) w) stands in
+      let used = is.uses.0 in
+      let gate = used.1 in
+      let found = used.2 in
+      let vector = used.3 in
+      let all = subst (λ t. RecombineBy t gate plan.parties (of_all x) (number plan outside x)) vector (recombined x gate found) in
+      let small : number plan outside x < 2 ^ w = subst (λ s. number plan outside x < 2 ^ s) is.fit.0 (number_small plan outside x gate found) in
+      ap (λ s. s % 2 ^ w) (xor_to_same plan.parties (λ p. outside.parts p x) (λ p. vector_share (of_all x p)) (λ p h. part_is Vector o x used p) ∙ all.0)
+      ∙ (mod-eq_of_lt small ∙ sym (number_here x gate found))
+
+pub shares_are_lawful : SharesAreLawful
+shares_are_lawful plan owns bases session inputs table valid honest given joint = (
+  shares plan owns bases session inputs table valid honest given joint,
+  record {
+    words = lawful_words plan owns bases session inputs table valid honest given joint;
+    vectors = lawful_vectors plan owns bases session inputs table valid honest given joint;
+  },
+)

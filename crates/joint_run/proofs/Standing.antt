@@ -3,11 +3,12 @@
 use Rattle.std.proofs.Common.{ℕ, ◌≡◌, ◌<◌, ◌*◌, ◌%◌, ◌^◌, List, Some}
 use Rattle.std.specs.Prelude.{slice_index, get_or, bit_and, bit_xor}
 use Rattle.share_types.specs.Sums.{sum_to, xor_to}
+use Rattle.share_types.specs.Keys.{AreSharedBit}
 use Rattle.bmr_keys.specs.Wires.{IsActive}
 use Rattle.plan_gates.specs.Gate.{Kind, width_at, word as word_use, vector as vector_use, mask as mask_use, online as online_use}
 use Rattle.plan_gates.specs.Plan.{Gates, IsOperand, IsWire}
 use Rattle.plan_gates.specs.Needs.{needs_at}
-use Rattle.joint_run.specs.Party.{Own, Value, Hand, Rounds, hand, word, vector, mask, online, key_offset, input, triple, bits_of, gate_sends, before, silence}
+use Rattle.joint_run.specs.Party.{Own, Value, Hand, Rounds, hand, word, vector, mask, online, key_offset, input, triple, bits_of, shared_bit, gate_sends, before, silence}
 use Rattle.joint_run.specs.Honest.{Taken, taken_by}
 
 -- the parties at a gate, each with its own data and its values of the gates before
@@ -20,7 +21,7 @@ pub record Hear (plan : Gates) (kind : Kind) (at : ℕ → Hand) (got : ℕ → 
       got p r q ≡ get_or (gate_sends kind (at q) (before r (got q))) r silence p
 
 -- operands recombine to their numbers, a word by sum, a vector by XOR and a wire that is shared as keys at each party, the
--- input is the one that its owner brings, and the triples of all parties multiply
+-- input is the one that its owner brings, the triples of all parties multiply, and their shared bits match
 pub record Stand (plan : Gates) (kind : Kind) (g : ℕ) (inputs plain : List ℕ) (at : ℕ → Hand) : Type 0 where
   pub words : (x : ℕ) → IsOperand plan.gates g (word_use x) →
       sum_to plan.parties (λ p. word (at p) x) % 2 ^ 64 ≡ slice_index plain x % 2 ^ 64
@@ -38,3 +39,5 @@ pub record Stand (plan : Gates) (kind : Kind) (g : ℕ) (inputs plain : List ℕ
   pub bit_triples : (needs_at plan g).bit ≡ width_at plan.gates g →
       xor_to plan.parties (λ p. bits_of (at p) 2)
       ≡ bit_and (xor_to plan.parties (λ p. bits_of (at p) 0)) (xor_to plan.parties (λ p. bits_of (at p) 1))
+  pub shared_bits : (w : ℕ) → (needs_at plan g).shared ≡ w → (k : ℕ) → k < w →
+      AreSharedBit plan.parties (λ p. shared_bit (at p) k)

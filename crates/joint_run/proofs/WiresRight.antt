@@ -16,15 +16,15 @@ use Rattle.bmr_garble.specs.Table.{Entries, IsGarbled}
 use Rattle.bmr_eval.specs.Active.{zero_active, xor_active, slice_active, join_active, and_active}
 use Rattle.bmr_eval.proofs.Evaluating.{zero-recombines, flip-recombines, xor-recombines, slice-recombines, join-recombines, and-recombines}
 use Rattle.plan_gates.specs.Gate.{Kind, Gate, Mask as mask_given, Online as online_given, mask as mask_use, online as online_use, gives, width_at, KeyMask, ConstMask, XorMask, FlipMask, SliceMask, JoinMask, InOnline, ShareAOnline, ShareBOnline, ZeroOnline, XorOnline, SliceOnline, JoinOnline, Garble, EvalY, gate_of}
-use Rattle.plan_gates.specs.Plan.{Gates, IsPlan, IsGate, StandsAt, IsWire, enters, enters_word, enters_vector, stays, flips, xors, slices, joins, evaluates, has_conversions}
-use Rattle.plan_gates.proofs.KeyLemmas.{unconverted_at}
+use Rattle.plan_gates.specs.Plan.{Gates, IsPlan, IsGate, IsOperand, StandsAt, IsWire, enters, enters_word, enters_vector, stays, flips, xors, slices, joins, evaluates}
 use Rattle.plan_gates.specs.Plain.{Outside, operand_number, operands_there}
 use Rattle.joint_run.specs.Party as party
-use Rattle.joint_run.specs.Party.{Own, Value, Hand, Rounds, mask_part, active_part, entries_in, keys_of, hand_at, wires_before, party_value, value_at, gate_value}
+use Rattle.joint_run.specs.Party.{Own, Value, Hand, Rounds, word_share, vector_share, mask_part, active_part, entries_in, keys_of, hand_at, wires_before, party_value, value_at, gate_value}
 use Rattle.joint_run.specs.Joint.{Payloads, column, IsJoint}
 use Rattle.joint_run.specs.Honest.{own_at, AreHonest, AreInputs}
+use Rattle.joint_run.specs.Parts.{AreShares}
 use Rattle.joint_run.proofs.Run.{wire_is, wide_is}
-use Rattle.joint_run.proofs.Narrow.{narrow, bits_in}
+use Rattle.joint_run.proofs.Narrow.{Enters, narrow, bits_in, enters_input, enters_share, enters_bits}
 use Rattle.joint_run.proofs.Numbers.{plain, numbered, plain_is, number_there, operand_number_small}
 use Rattle.joint_run.proofs.Sharing.{join_small}
 use Rattle.joint_run.proofs.Dealing.{offsets_odd}
@@ -39,7 +39,7 @@ cut_xor : (w x y : ℕ) → x < 2 ^ w → y < 2 ^ w → bit_xor x y % 2 ^ w ≡ 
 cut_xor w x y p q = mod-eq_of_lt (xor_lt w x y p q)
 
 module _ (plan : Gates) (owns : List Own) (bases : Needs) (session : ℕ) (outside : Outside) (table : Payloads)
-    (valid : IsPlan plan) (pure : has_conversions plan ≡ false) (honest : AreHonest plan owns bases session) (inputs_are : AreInputs plan owns outside.inputs) (joint : IsJoint plan owns table) where
+    (valid : IsPlan plan) (honest : AreHonest plan owns bases session) (inputs_are : AreInputs plan owns outside.inputs) (parts_are : AreShares plan owns table outside) (joint : IsJoint plan owns table) where
   abbrev n : ℕ
   n = plan.parties
 
@@ -110,13 +110,13 @@ module _ (plan : Gates) (owns : List Own) (bases : Needs) (session : ℕ) (outsi
       (made_online g kind p).masked < 2 ^ wide g
   made_small g p kind w found is h =
       subst (λ v. (active_part n v).masked < 2 ^ wide g) (ap (λ o. value_at o (at g p) (column table p g)) found)
-      (subst (λ given. bits_in n given (value g p) < 2 ^ wide g) is (narrow plan owns table valid pure honest.each joint g (gate_of kind w) found p h))
+      (subst (λ given. bits_in n given (value g p) < 2 ^ wide g) is (narrow plan owns table valid honest.each joint g (gate_of kind w) found p h))
 
   online_is : (g x p : ℕ) → x < g → party.online (at g p) x ≡ onlines x p
   online_is g x p less = ap (active_part n) (wire_is plan owns table honest.each joint g x p less)
 
   masks_are : (g x : ℕ) → x < g → (λ (p : ℕ). party.mask (at g p) x) ≡ masks x
-  masks_are g x less = mask_is plan owns bases session table valid pure honest joint g x less
+  masks_are g x less = mask_is plan owns bases session table valid honest joint g x less
 
   moved : (u v : ℕ → Mask) (x y : ℕ) (a b : Active) → u ≡ v → x ≡ y → a ≡ b → IsActive n offset u x a → IsActive n offset v y b
   moved u v x y a b as_mask as_number as_online is =
@@ -148,18 +148,44 @@ module _ (plan : Gates) (owns : List Own) (bases : Needs) (session : ℕ) (outsi
   abbrev Wires : ℕ → ℕ → ℕ → Type 0
   Wires m o p = IsActive n offset (masks m) (wire_number m o) (onlines o p)
 
-  entry_case : (m o w owner k low p : ℕ) → p < n → StandsAt plan.gates m KeyMask w → StandsAt plan.gates o (InOnline owner k low m) w → Wires m o p
-  entry_case m o w owner k low p h there found =
+  -- a value that a party enters
+  entry_case : (m o w owner : ℕ) (kind : Kind) (value : Hand → ℕ) → Enters kind owner m value → StandsAt plan.gates m KeyMask w → StandsAt plan.gates o kind w →
+      owner < n → IsOperand plan.gates o (mask_use m) → wide m ≡ w → number o ≡ value (at o owner) → (p : ℕ) → p < n → gives kind ≡ online_given → Wires m o p
+  entry_case m o w owner kind value way there found inside used as_wide entered p h is_online =
+      moved (λ q. party.mask (at o q) m) (masks m) (value (at o owner)) (wire_number m o) (made_online o kind p) (onlines o p)
+      (masks_are o m used.0)
+      (sym (ap₂ bit_xor entered (fresh_number m w there) ∙ xor_zero_r (value (at o owner))))
+      (online_made o p kind w found)
+      (entry_wire plan owns bases session table valid honest joint o owner m w kind value way found inside used as_wide p h)
+
+  input_case : (m o w owner k low p : ℕ) → p < n → StandsAt plan.gates m KeyMask w → StandsAt plan.gates o (InOnline owner k low m) w → Wires m o p
+  input_case m o w owner k low p h there found =
       let is = gate_there o (InOnline owner k low m) w found in
       let brought : slice_index outside.inputs k ≡ party.input (at o owner) k = inputs_are o (gate_of (InOnline owner k low m) w) (record { party = owner; k = k }) found refl in
-      let entered : number o ≡ party.input_bits (at o owner) k low =
-      number_there plan outside o (InOnline owner k low m) w found
-      ∙ ap₂ (λ (v s : ℕ). v / 2 ^ low % 2 ^ s) brought (sym (wide_there o (InOnline owner k low m) w found)) in
-      moved (λ q. party.mask (at o q) m) (masks m) (party.input_bits (at o owner) k low) (wire_number m o) (made_online o (InOnline owner k low m) p) (onlines o p)
-      (masks_are o m is.uses.0.0)
-      (sym (ap₂ bit_xor entered (fresh_number m w there) ∙ xor_zero_r (party.input_bits (at o owner) k low)))
-      (online_made o p (InOnline owner k low m) w found)
-      (entry_wire plan owns bases session table valid pure honest joint o owner k low m w found p h)
+      entry_case m o w owner (InOnline owner k low m) (λ h. party.input_bits h k low) (enters_input owner k low m) there found is.party is.uses.0 is.fit.0
+      (number_there plan outside o (InOnline owner k low m) w found
+      ∙ ap₂ (λ (v s : ℕ). v / 2 ^ low % 2 ^ s) brought (sym (wide_there o (InOnline owner k low m) w found)))
+      p h refl
+
+  word_case : (m o w owner x p : ℕ) → p < n → StandsAt plan.gates m KeyMask w → StandsAt plan.gates o (ShareAOnline owner x m) w → Wires m o p
+  word_case m o w owner x p h there found =
+      let is = gate_there o (ShareAOnline owner x m) w found in
+      let brought : outside.parts owner x ≡ party.word (at o owner) x =
+      parts_are.words o owner x m w found owner is.party ∙ ap word_share (sym (wire_is plan owns table honest.each joint o x owner is.uses.0.0)) in
+      entry_case m o w owner (ShareAOnline owner x m) (λ h. party.word_bits h x) (enters_share owner x m) there found is.party is.uses.1.0 is.fit.1.0
+      (number_there plan outside o (ShareAOnline owner x m) w found
+      ∙ ap₂ (λ (v s : ℕ). v % 2 ^ s) brought (sym (wide_there o (ShareAOnline owner x m) w found)))
+      p h refl
+
+  vector_case : (m o w owner x p : ℕ) → p < n → StandsAt plan.gates m KeyMask w → StandsAt plan.gates o (ShareBOnline owner x m) w → Wires m o p
+  vector_case m o w owner x p h there found =
+      let is = gate_there o (ShareBOnline owner x m) w found in
+      let brought : outside.parts owner x ≡ party.vector (at o owner) x =
+      parts_are.vectors o owner x m w found owner is.party ∙ ap vector_share (sym (wire_is plan owns table honest.each joint o x owner is.uses.0.0)) in
+      entry_case m o w owner (ShareBOnline owner x m) (λ h. party.vector_bits h x) (enters_bits owner x m) there found is.party is.uses.1.0 is.fit.1.0
+      (number_there plan outside o (ShareBOnline owner x m) w found
+      ∙ ap₂ (λ (v s : ℕ). v % 2 ^ s) brought (sym (wide_there o (ShareBOnline owner x m) w found)))
+      p h refl
 
   constant_case : (m o w c p : ℕ) → p < n → StandsAt plan.gates m (ConstMask c) w → StandsAt plan.gates o ZeroOnline w → Wires m o p
   constant_case m o w c p h there found =
@@ -177,7 +203,7 @@ module _ (plan : Gates) (owns : List Own) (bases : Needs) (session : ℕ) (outsi
       let less : u < m = is.uses.0.0 in
       let before : ℕ → Mask = λ q. party.mask (at m q) u in
       let same : wide m ≡ w = wide_there m (FlipMask u c) w there in
-      let fit : AreParts n (wide u) offset before = operand_fits plan owns bases session table valid pure honest joint m u is.uses.0 in
+      let fit : AreParts n (wide u) offset before = operand_fits plan owns bases session table valid honest joint m u is.uses.0 in
       let here : IsActive n offset before (wire_number u o) (onlines o p) =
       subst (λ k. IsActive n offset k (wire_number u o) (onlines o p)) (sym (masks_are m u less)) wire in
       let flipped = flip-recombines n offset before (wire_number u o) c (onlines o p) some here in
@@ -286,7 +312,7 @@ module _ (plan : Gates) (owns : List Own) (bases : Needs) (session : ℕ) (outsi
       let v_less : v < t = is.uses.1.0.0 in
       let same : wide t ≡ wide o = wide_there t (Garble u v m) w tabled ∙ sym (wide_there o (EvalY t a b) w found) in
       let result : ℕ → Mask = λ q. party.mask (at t q) m in
-      let fit : AreParts n (wide m) offset result = operand_fits plan owns bases session table valid pure honest joint t m is.uses.1.1.0 in
+      let fit : AreParts n (wide m) offset result = operand_fits plan owns bases session table valid honest joint t m is.uses.1.1.0 in
       let wide_m : wide m ≡ wide o = wide_there m KeyMask w there ∙ sym (wide_there o (EvalY t a b) w found) in
       let entries : Entries = party.table (at o p) t in
       let entries_are : entries_in n (gate_value (Garble u v m) (at t p) (column table p t)) ≡ entries =
@@ -297,7 +323,7 @@ module _ (plan : Gates) (owns : List Own) (bases : Needs) (session : ℕ) (outsi
       (whole n (λ q. party.mask (at t q) u)) (whole n (λ q. party.mask (at t q) v)) (whole n result) k) entries_are
       (subst (λ s. IsGarbled n s offset t (λ q. party.mask (at t q) u) (λ q. party.mask (at t q) v) result
       (whole n (λ q. party.mask (at t q) u)) (whole n (λ q. party.mask (at t q) v)) (whole n result) (entries_in n (gate_value (Garble u v m) (at t p) (column table p t)))) same
-      (garbled plan owns bases session table valid pure honest joint t u v m w tabled p h)) in
+      (garbled plan owns bases session table valid honest joint t u v m w tabled p h)) in
       let one = seen_wire t o u a p (wire_number u a) u_less its.uses.1.0.0 first in
       let two = seen_wire t o v b p (wire_number v b) v_less its.uses.1.1.0.0 second in
       let seen : Active = and_active n (wide o) entries t (party.online (at o p) a) (party.online (at o p) b) in
@@ -328,9 +354,9 @@ module _ (plan : Gates) (owns : List Own) (bases : Needs) (session : ℕ) (outsi
   -- ---- all wires
 
   pub wire_right : (m o : ℕ) → IsWire plan.gates m o → (p : ℕ) → p < n → Wires m o p
-  wire_right m o (enters _ _ w owner k low a b) p h = entry_case m o w owner k low p h a b
-  wire_right m o (enters_word _ _ w owner x a b) p h = let no = unconverted_at plan o (gate_of (ShareAOnline owner x m) w) pure b in absurd (cc)
-  wire_right m o (enters_vector _ _ w owner x a b) p h = let no = unconverted_at plan o (gate_of (ShareBOnline owner x m) w) pure b in absurd (cc)
+  wire_right m o (enters _ _ w owner k low a b) p h = input_case m o w owner k low p h a b
+  wire_right m o (enters_word _ _ w owner x a b) p h = word_case m o w owner x p h a b
+  wire_right m o (enters_vector _ _ w owner x a b) p h = vector_case m o w owner x p h a b
   wire_right m o (stays _ _ w c a b) p h = constant_case m o w c p h a b
   wire_right m o (flips _ _ w u c a wire) p h = flip_case m o w u c p h a (wire_right u o wire p h)
   wire_right m o (xors _ _ w u v x y a b first second) p h = xor_case m o w u v x y p h a b (wire_right u x first p h) (wire_right v y second p h)
@@ -355,7 +381,7 @@ module _ (plan : Gates) (owns : List Own) (bases : Needs) (session : ℕ) (outsi
   pub wire_fits : (m o : ℕ) → IsWire plan.gates m o → IsMask n offset (masks m) (whole n (masks m))
   wire_fits m o wire =
       let (gate, found, is) = mask_given_at m o wire in
-      (fits plan owns bases session table valid pure honest joint m gate found is).mask
+      (fits plan owns bases session table valid honest joint m gate found is).mask
 
 -- both gates of a wire stand in the plan
 pub wire_inside : (plan : Gates) (m o : ℕ) → IsWire plan.gates m o → (m < length plan.gates) × (o < length plan.gates)

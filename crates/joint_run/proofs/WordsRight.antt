@@ -2,7 +2,12 @@
 use Rattle.std.proofs.Common.{ℕ, ◌≡◌, ◌<◌, ◌≤◌, ◌+◌, ◌*◌, ◌%◌, ◌^◌, Bool, true, false, cond, List, [], ◌∷◌, Some, None, refl, sym, ◌∙◌, ap, ap₂, arith}
 use Rattle.std.specs.Prelude.{slice_get, slice_index, ◌==◌, if◌then◌else◌}
 use Rattle.std.proofs.lemmas.Bool.{eqb-true, eqb-false, eq-eqb}
-use Rattle.share_types.specs.Sums.{sum_to}
+use Rattle.share_types.specs.Sums.{sum_to, xor_to}
+use Rattle.std.proofs.lemmas.Nat.{xor_lt}
+use Rattle.share_convert.specs.Convert.{closed_word}
+use Rattle.share_convert.proofs.Summing.{bits-sum}
+use Rattle.bmr_keys.proofs.Labels.{number-each_below}
+use Rattle.boolean_gmw.proofs.Xors.{opened_xor}
 use Rattle.share_types.specs.declared.records.MultTriple.{MultTriple}
 use Rattle.share_types.specs.declared.receiver.Receiver.{Receiver}
 use Rattle.share_types.specs.Wires.{includes}
@@ -10,19 +15,18 @@ use Rattle.share_types.proofs.Parties.{sum_to_same}
 use Rattle.arithmetic_gmw.specs.Shares.{closed_share}
 use Rattle.arithmetic_gmw.proofs.Recombining.{sum-recombines, difference-recombines, scaled-recombines, raised-recombines, product-recombines}
 use Rattle.arithmetic_gmw.proofs.Sums.{sum_mod, one_apart, opened_sum}
-use Rattle.plan_gates.specs.Gate.{Kind, Word, gives, width_at, InA, ConstA, AddA, SubA, AddConstA, MulConstA, MulA, OutA, word as word_use, BToA}
-use Rattle.plan_gates.specs.Plan.{Gates, IsPlan, IsGate, IsOperand, has_conversions}
-use Rattle.plan_gates.proofs.KeyLemmas.{unconverted_at}
+use Rattle.plan_gates.specs.Gate.{Kind, Word, gives, width_at, InA, ConstA, AddA, SubA, AddConstA, MulConstA, MulA, OutA, word as word_use, vector as vector_use, BToA}
+use Rattle.plan_gates.specs.Plan.{Gates, IsPlan, IsGate, IsOperand}
 use Rattle.plan_gates.specs.Plain.{Outside, number_at, number_of, seen_of}
 use Rattle.plan_gates.specs.Needs.{needs_at, needs_there}
 use Rattle.joint_run.specs.Party as party
 use Rattle.joint_run.specs.Party.{Own, Value, Hand, Rounds, word_share, gate_value, opened_word}
-use Rattle.joint_run.specs.Payload.{word_bytes, word_in}
+use Rattle.joint_run.specs.Payload.{word_bytes, word_in, vector_in}
 use Rattle.joint_run.proofs.Standing.{hands, Hear, Stand}
-use Rattle.joint_run.proofs.Sharing.{word_first, word_second, back, public}
+use Rattle.joint_run.proofs.Sharing.{word_first, word_second, vector_first, back, public}
 use Rattle.joint_run.proofs.Run.{wide_is}
 
-module _ (plan : Gates) (valid : IsPlan plan) (pure : has_conversions plan ≡ false) (outside : Outside) (plain : List ℕ) (g : ℕ)
+module _ (plan : Gates) (valid : IsPlan plan) (outside : Outside) (plain : List ℕ) (g : ℕ)
     (own : ℕ → Own) (wires : ℕ → List Value) (got : ℕ → Rounds) where
   abbrev n : ℕ
   n = plan.parties
@@ -112,6 +116,27 @@ module _ (plan : Gates) (valid : IsPlan plan) (pure : has_conversions plan ≡ f
       ∙ product-recombines n (λ p. party.word (at p) x) (λ p. party.word (at p) y) triple_of vx vy (opened_d x) (opened_e y)
       (stands.triples (omega (arith, needed))) is_x is_y (omega arith) (omega arith)
 
+  -- ---- vectors as words
+
+  bits_right : (x width : ℕ) → IsThere (BToA x) width → Hears (BToA x) → Stands (BToA x) → IsOperand plan.gates g (vector_use x) →
+      sum_to n (λ p. party.closed_vector (at p) x (got p 0)) % 2 ^ 64 ≡ slice_index plain x % 2 ^ 64
+  bits_right x width found hears stands used =
+      let w = width_at plan.gates x in
+      let covered : ℕ → ℕ = λ q. party.covered_vector (at q) x in
+      let v = xor_to n covered in
+      let operand = stands.vectors x used in
+      let needed : (needs_at plan g).shared ≡ w = ap (λ o. (needs_there plan o).shared) found in
+      let small : (q : ℕ) → q < n → covered q < 2 ^ w =
+      λ q h. xor_lt w (party.vector (at q) x) _ (operand.1 q h) (number-each_below w (λ i. (party.shared_bit (at q) i).bit)) in
+      let opened : (p : ℕ) → p < n → party.opened_bits (at p) w (covered p) (got p 0) 0 ≡ v =
+      λ p h. opened_xor n p covered (λ q. vector_in w (got p 0 q) 0)
+      (λ q b apart. ap (λ bytes. vector_in w bytes 0) (hears.sent 0 p q h b apart) ∙ vector_first w (covered q) [] (small q b)) in
+      ap (λ s. s % 2 ^ 64)
+      (sum_to_same n (λ p. party.closed_vector (at p) x (got p 0)) (λ p. closed_word p w (party.shared_bit (at p)) v)
+      (λ p h. ap (closed_word p w (party.shared_bit (at p))) (opened p h)))
+      ∙ (bits-sum n w (λ p. party.shared_bit (at p)) (λ p. party.vector (at p) x) v positive (λ k less. stands.shared_bits w needed k less) operand.1 refl
+      ∙ ap (λ s. s % 2 ^ 64) operand.0)
+
   -- ---- all gates over words
 
   pub word_right : (kind : Kind) (width : ℕ) → IsThere kind width → Hears kind → Stands kind → gives kind ≡ Word →
@@ -132,8 +157,7 @@ module _ (plan : Gates) (valid : IsPlan plan) (pure : has_conversions plan ≡ f
           scaled-recombines n (λ p. party.word (at p) x) (slice_index plain x) c (stands.words x is.uses.0)
       by (MulA x y) found hears stands word is =
           product_right x y width (slice_index plain x) (slice_index plain y) found hears stands (stands.words x is.uses.0) (stands.words y is.uses.1.0)
-      by (BToA x) found hears stands word is =
-          let no = unconverted_at plan g (record { kind = BToA x; width = width }) pure found in absurd (cc)
+      by (BToA x) found hears stands word is = bits_right x width found hears stands is.uses.0
       by _ found hears stands word is = cc
 
   -- ---- outputs

@@ -35,6 +35,7 @@ pub record AreHonest (plan : Gates) (owns : List Own) (bases : Needs) (session :
   pub honest : HonestTogether (map (λ own. own.part) owns) plan.parties id counts
   pub enough_mult : (sum_of_needs bases (all_needs plan)).mult ≤ counts.mult
   pub enough_bits : (sum_of_needs bases (all_needs plan)).bit ≤ counts.bit
+  pub enough_shared : (sum_of_needs bases (all_needs plan)).shared ≤ counts.shared
   pub enough_keys : (sum_of_needs bases (all_needs plan)).key ≤ counts.key
 
 -- the party and the number of the input that a gate takes

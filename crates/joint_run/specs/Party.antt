@@ -5,6 +5,7 @@ use Rattle.share_types.specs.declared.needs.Needs.{Needs}
 use Rattle.share_types.specs.declared.records.MultTriple.{MultTriple}
 use Rattle.share_types.specs.Bits.{number}
 use Rattle.share_types.specs.declared.records.KeyBit.{KeyBit}
+use Rattle.share_types.specs.declared.records.SharedBit.{SharedBit}
 use Rattle.share_types.specs.declared.keys.Key.{Key}
 use Rattle.share_types.specs.Keys.{key_at, key_of}
 use Rattle.share_types.specs.Sums.{word_sum, word_difference, word_product, part_of_public, sum_to, xor_to, each}
@@ -17,10 +18,10 @@ use Rattle.bmr_keys.specs.Wires.{Active}
 use Rattle.bmr_garble.specs.Product.{key_bit_at, product_times}
 use Rattle.bmr_garble.specs.Table.{Entries, entry_place, share_entry}
 use Rattle.bmr_eval.specs.Active.{own_active, zero_active, xor_active, slice_active, join_active, and_active}
-use Rattle.share_convert.specs.Convert.{opened_share}
+use Rattle.share_convert.specs.Convert.{opened_share, shared_bit_at, covered_share, closed_word}
 use Rattle.dealer_files.specs.Part.{Part}
 use Rattle.dealer_files.specs.Records.{vector_of}
-use Rattle.plan_gates.specs.Gate.{Kind, Gate, InA, ConstA, AddA, SubA, AddConstA, MulConstA, MulA, OutA, InB, ConstB, XorB, XorConstB, SliceB, JoinB, AndB, OutB, KeyMask, ConstMask, XorMask, FlipMask, SliceMask, JoinMask, InOnline, ZeroOnline, XorOnline, SliceOnline, JoinOnline, Garble, EvalY, YToB, width_at}
+use Rattle.plan_gates.specs.Gate.{Kind, Gate, InA, ConstA, AddA, SubA, AddConstA, MulConstA, MulA, OutA, InB, ConstB, XorB, XorConstB, SliceB, JoinB, AndB, OutB, KeyMask, ConstMask, XorMask, FlipMask, SliceMask, JoinMask, InOnline, ZeroOnline, XorOnline, SliceOnline, JoinOnline, Garble, EvalY, YToB, width_at, ShareAOnline, ShareBOnline, BToA}
 use Rattle.plan_gates.specs.Plan.{Gates}
 use Rattle.plan_gates.specs.Needs.{offset}
 use Rattle.share_types.specs.Needs.{sum_of_needs}
@@ -129,12 +130,16 @@ input h k = number (get_or h.own.inputs k [])
 abbrev pub first : Hand → Needs
 first h = sum_of_needs h.own.bases (offset h.plan h.gate)
 
--- an opened word, and an opened vector: what all parties' parts recombine to, the own one and number i of what was heard
+-- an opened word, and an opened vector of a width, or of the gate's: what all parties' parts recombine to, the own one and
+-- number i of what was heard
 abbrev pub opened_word : Hand → ℕ → Heard → ℕ → ℕ
 opened_word h part heard i = sum_to (parties h) (λ q. if q == h.me then part else word_in (heard q) i) % 2 ^ 64
 
+abbrev pub opened_bits : Hand → ℕ → ℕ → Heard → ℕ → ℕ
+opened_bits h w part heard i = xor_to (parties h) (λ q. if q == h.me then part else vector_in w (heard q) i)
+
 abbrev pub opened_vector : Hand → ℕ → Heard → ℕ → ℕ
-opened_vector h part heard i = xor_to (parties h) (λ q. if q == h.me then part else vector_in (width h) (heard q) i)
+opened_vector h part heard i = opened_bits h (width h) part heard i
 
 -- ---- inputs: the owner keeps what the words that it gives out leave of the value
 
@@ -229,9 +234,13 @@ fresh h = fresh_mask (width h) (key_record h) (zero_key h)
 abbrev pub masked_by_owner : Hand → ℕ → ℕ → Heard → ℕ
 masked_by_owner h m x heard = bit_xor x (opened_vector h (mask h m).mask heard 0)
 
+-- the payload that tells them, from which all parties read them, the owner too
+abbrev pub masked_payload : Hand → ℕ → ℕ → ℕ → Rounds → Payload
+masked_payload h party m x got =
+    if h.me == party then vectors_bytes (width h) (masked_by_owner h m x (got 0) ∷ []) else got 1 party
+
 abbrev pub masked : Hand → ℕ → ℕ → ℕ → Rounds → ℕ
-masked h party m x got =
-    if h.me == party then masked_by_owner h m x (got 0) else vector_in (width h) (got 1 party) 0
+masked h party m x got = vector_in (width h) (masked_payload h party m x got) 0
 
 abbrev pub own_keys : Hand → ℕ → ℕ → List Key
 own_keys h m t = keys_of (width h) (own_active (mask h m) (key_offset h) t)
@@ -248,9 +257,15 @@ entry_sends h party m x got =
     ∷ (λ to. if h.me == party then vectors_bytes (width h) (masked_by_owner h m x (got 0) ∷ []) else [])
     ∷ (λ to. key_bytes (own_keys h m (masked h party m x got))) ∷ []
 
--- the value that a party enters of an input
+-- the value that a party enters of an input, and that of its own share of a word or of a vector
 abbrev pub input_bits : Hand → ℕ → ℕ → ℕ
 input_bits h k at = input h k / 2 ^ at % 2 ^ width h
+
+abbrev pub word_bits : Hand → ℕ → ℕ
+word_bits h x = word h x % 2 ^ width h
+
+abbrev pub vector_bits : Hand → ℕ → ℕ
+vector_bits h x = vector h x % 2 ^ width h
 
 -- ---- garbled tables: the product of both masks is shared, by bit triples and then, XOR the bits of key records, times
 -- each owner's offset; the shares of the table are told
@@ -269,11 +284,15 @@ mask_product h u v heard =
 abbrev pub covered_product : Hand → ℕ → ℕ → Heard → ℕ
 covered_product h u v heard = bit_xor (mask_product h u v heard) (fresh h).mask
 
+-- what is opened is read from payloads, the own part too
+abbrev pub product_payload : Hand → ℕ → ℕ → Heard → Payload
+product_payload h u v heard = vectors_bytes (width h) (covered_product h u v heard ∷ [])
+
 -- the party's share of the product times each owner's offset
 abbrev pub product_keys : Hand → ℕ → ℕ → Rounds → ℕ → ℕ → ℕ
 product_keys h u v got =
     product_times (width h) h.me (key_offset h) (key_record h)
-    (opened_vector h (covered_product h u v (got 0)) (got 1) 0)
+    (opened_vector h (vector_in (width h) (product_payload h u v (got 0)) 0) (got 1) 0)
 
 -- the party's share of the table, and the table
 abbrev pub table_share : Hand → ℕ → ℕ → ℕ → Rounds → Entries
@@ -287,21 +306,37 @@ table_keys h entries =
 abbrev pub own_table : Hand → ℕ → ℕ → ℕ → Rounds → List Key
 own_table h u v m got = table_keys h (table_share h u v m got)
 
+-- each share is read from its payload, the own one too
 abbrev pub joined_table : Hand → ℕ → ℕ → ℕ → Rounds → List Key
 joined_table h u v m got =
     keys_of (4 * width h * parties h)
-    (λ k. xor_to (parties h) (λ q. if q == h.me then key_at (own_table h u v m got) k else key_in (got 2 q) k))
+    (λ k. xor_to (parties h) (λ q. key_in (if q == h.me then key_bytes (own_table h u v m got) else got 2 q) k))
 
 abbrev pub garble_sends : Hand → ℕ → ℕ → ℕ → Rounds → List Heard
 garble_sends h u v m got =
     (λ to. vectors_bytes (width h) (left_mask h u ∷ right_mask h v ∷ []))
-    ∷ (λ to. vectors_bytes (width h) (covered_product h u v (got 0) ∷ []))
+    ∷ (λ to. product_payload h u v (got 0))
     ∷ (λ to. key_bytes (own_table h u v m got)) ∷ []
+
+-- ---- a vector as a word: its bits XOR shared bits are opened, and each shared bit, which is shared by sum too, is turned by
+-- the opened one
+
+abbrev pub low : Hand → ℕ → ℕ
+low h x = width_at h.plan.gates x
+
+abbrev pub shared_bit : Hand → ℕ → SharedBit
+shared_bit h k = shared_bit_at h.own.part.shared ((first h).shared + k)
+
+abbrev pub covered_vector : Hand → ℕ → ℕ
+covered_vector h x = covered_share (low h x) (vector h x) (shared_bit h)
+
+abbrev pub closed_vector : Hand → ℕ → Heard → ℕ
+closed_vector h x heard =
+    closed_word h.me (low h x) (shared_bit h) (opened_bits h (low h x) (covered_vector h x) heard 0)
 
 -- ---- the equations
 
--- the value of a gate, from what the party has at hand and what it hears in all rounds. Gates of conversions have none yet,
--- and send nothing
+-- the value of a gate, from what the party has at hand and what it hears in all rounds
 abbrev pub gate_value : Kind → Hand → Rounds → Value
 gate_value (InA party k) h got = WordShare (if party == h.me then kept_word h k else word_in (got 0 party) 0)
 gate_value (ConstA c) h got = WordShare (part_of_public h.me c)
@@ -334,7 +369,9 @@ gate_value (JoinOnline u v) h got = online_value h (join_active (width_at h.plan
 gate_value (Garble u v m) h got = Table (joined_table h u v m got)
 gate_value (EvalY t u v) h got = online_value h (and_active (parties h) (width h) (table h t) t (online h u) (online h v))
 gate_value (YToB m o) h got = VectorShare (opened_share h.me (mask h m).mask (online h o).masked)
-gate_value _ h got = Told None
+gate_value (ShareAOnline party x m) h got = online_value h (entered h party m (word_bits h x) got)
+gate_value (ShareBOnline party x m) h got = online_value h (entered h party m (vector_bits h x) got)
+gate_value (BToA x) h got = WordShare (closed_vector h x (got 0))
 
 -- what the party has to send at a gate: for each round in order, the payload by receiver
 abbrev pub gate_sends : Kind → Hand → Rounds → List Heard
@@ -347,7 +384,10 @@ gate_sends (AndB x y) h got = (λ to. vectors_bytes (width h) (left_vector h x �
 gate_sends (OutB x receiver) h got =
     (λ to. if includes receiver to then vectors_bytes (width h) (vector h x ∷ []) else []) ∷ []
 gate_sends (InOnline party k at m) h got = entry_sends h party m (input_bits h k at) got
+gate_sends (ShareAOnline party x m) h got = entry_sends h party m (word_bits h x) got
+gate_sends (ShareBOnline party x m) h got = entry_sends h party m (vector_bits h x) got
 gate_sends (Garble u v m) h got = garble_sends h u v m got
+gate_sends (BToA x) h got = (λ to. vectors_bytes (low h x) (covered_vector h x ∷ [])) ∷ []
 gate_sends _ h got = []
 
 -- ---- a whole plan

@@ -1,4 +1,4 @@
-ghost use Rattle.joint_run.specs.Laws.{APartyFollows, EveryGateRecombines, EveryWireRecombines, OneJointRun, PayloadsHaveTheirLengths, PayloadsHaveTheirShapes, PayloadsReadBack};
+ghost use Rattle.joint_run.specs.Laws.{APartyFollows, EveryGateRecombines, EveryWireRecombines, OneJointRun, PayloadsHaveTheirLengths, PayloadsHaveTheirShapes, PayloadsReadBack, SharesAreLawful};
 ghost use Rattle.joint_run.specs.Uses.{UsesNeverMeet};
 
 /// What is read at each place of a payload is what was written there.
@@ -34,6 +34,12 @@ pub fn every_gate_recombines()
 /// are those of the mask.
 pub fn every_wire_recombines()
     ensures { EveryWireRecombines }
+{}
+
+/// Where each party enters its own shares of a value, these are lawful parts: with honest dealer's parts they recombine to the
+/// number that the plan computes there in plain.
+pub fn shares_are_lawful()
+    ensures { SharesAreLawful }
 {}
 
 /// A party that was sent what a joint run sends it, and nothing else, has the run's values and sends the run's payloads.

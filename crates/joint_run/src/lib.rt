@@ -7,7 +7,7 @@ mod payload;
 
 pub use laws::{
     a_party_follows, every_gate_recombines, every_wire_recombines, one_joint_run,
-    payloads_have_their_lengths, payloads_have_their_shapes, payloads_read_back,
+    payloads_have_their_lengths, payloads_have_their_shapes, payloads_read_back, shares_are_lawful,
     tape_uses_never_meet,
 };
 pub use own::Own;

@@ -14,7 +14,7 @@ use Rattle.joint_run.specs.Party as party
 use Rattle.joint_run.specs.Party.{Own, party_value}
 use Rattle.joint_run.specs.Joint.{Payloads, column, IsJoint}
 use Rattle.joint_run.specs.Honest.{own_at, AreHonest, AreInputs, RecombineBy}
-use Rattle.joint_run.proofs.Converting.{unconverted}
+use Rattle.joint_run.proofs.Converting.{unconverted, no_shares}
 use Rattle.joint_run.proofs.Grown.{grown-get}
 use Rattle.joint_run.proofs.Recombining.{every_gate_recombines}
 use Rattle.joint_run.proofs.Unique.{one_joint_run}
@@ -67,7 +67,7 @@ gate_told plan owns bases session outside table p g (Some gate) is unkeyed hones
     let number = number_at plan.gates outside (plain_before plan.gates outside g) (slice_get plan.gates g) in
     let plain : slice_get (plain_before plan.gates outside (length plan.gates)) g ≡ Some number =
     grown-get (plain_before plan.gates outside) (λ j. number_at plan.gates outside (plain_before plan.gates outside j) (slice_get plan.gates j)) refl (λ j. refl) (length plan.gates) g within in
-    let recombine = every_gate_recombines plan owns bases session outside table is (unconverted plan unkeyed) honest ins joint g gate number there plain in
+    let recombine = every_gate_recombines plan owns bases session outside table is honest ins (no_shares plan owns table outside (unconverted plan unkeyed)) joint g gate number there plain in
     told_plain gate.kind gate.width plan.parties p number (λ q. party_value plan q (own_at owns q) (column table q) g) told recombine known
     ∙ ap (λ (x : ℕ). party.Told (Some x)) (sym (got_index (plain_before plan.gates outside (length plan.gates)) g number plain))
 

@@ -191,7 +191,7 @@ jobs_of_seed_serve plan seed inputs values parts valid unkeyed takes widths serv
 )
 
 pub jobs_of_seed_are_honest : JobsOfSeedAreHonest
-jobs_of_seed_are_honest plan seed inputs values parts id counts honest mult bit key =
+jobs_of_seed_are_honest plan seed inputs values parts id counts honest mult bit shared key =
     let all = owns_with (owns_of seed plan.parties inputs values) parts in
     let many = honest.count in
     let size = count plan seed inputs values parts many in
@@ -205,5 +205,6 @@ jobs_of_seed_are_honest plan seed inputs values parts id counts honest mult bit 
       honest = rw same honest;
       enough_mult = omega (arith, mult);
       enough_bits = omega (arith, bit);
+      enough_shared = omega (arith, shared);
       enough_keys = omega (arith, key);
     }

@@ -18,7 +18,6 @@ use Rattle.joint_run.specs.Joint.{Payloads, column, sent_by, IsJoint}
 use Rattle.joint_run.specs.Honest.{own_at, nobody}
 use Rattle.joint_run.specs.Laws.{length_of}
 use Rattle.gate_tasks.specs.Stage.{value_of, gate_of, out_to, outs_in, outs_of, rounds_sent, receivers, is_last, value_on, formed_before, carried_to, IsOf, HasShape}
-use Rattle.joint_run.proofs.Converting.{unconverted}
 use Rattle.joint_run.proofs.Grown.{there_is}
 use Rattle.joint_run.proofs.Lengths.{payloads_have_their_lengths}
 use Rattle.joint_run.proofs.Narrow.{payloads_have_their_shapes}
@@ -192,8 +191,8 @@ module _ (plan : Gates) (owns : List Own) (valid : IsPlan plan) (unkeyed : has_k
   is_meant table (Message g round from to) (cargo.Message bytes) given joint is real run here =
       let same : bytes ≡ table g round from.0 to.0 = payload_is table g round from to given bytes is.party joint run here in (
         shape_by bytes (message plan from.0 to.0 g round)
-            (ap length same ∙ payloads_have_their_lengths plan owns table (unconverted plan unkeyed) count joint g round from.0 to.0)
-            (λ m there. ap (has_high_bits m.shape) same ∙ payloads_have_their_shapes plan owns table valid (unconverted plan unkeyed) count joint g round from.0 to.0 m there),
+            (ap length same ∙ payloads_have_their_lengths plan owns table count joint g round from.0 to.0)
+            (λ m there. ap (has_high_bits m.shape) same ∙ payloads_have_their_shapes plan owns table valid count joint g round from.0 to.0 m there),
         λ other other_joint. payload_is other g round from to given bytes is.party other_joint run here,
       )
   is_meant table (Message g round from to) (cargo.Value v) given joint is real run here = absurd here

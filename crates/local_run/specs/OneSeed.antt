@@ -68,5 +68,6 @@ JobsOfSeedAreHonest =
     (plan : Gates) (seed : List ℕ) (inputs : List Input) (values : List (List Bool)) (parts : List Part)
     (id : ℕ) (counts : Needs) →
     HonestTogether parts plan.parties id counts →
-    (all_needs plan).mult ≤ counts.mult → (all_needs plan).bit ≤ counts.bit → (all_needs plan).key ≤ counts.key →
+    (all_needs plan).mult ≤ counts.mult → (all_needs plan).bit ≤ counts.bit → (all_needs plan).shared ≤ counts.shared →
+    (all_needs plan).key ≤ counts.key →
     AreHonest plan (owns_with (owns_of seed plan.parties inputs values) parts) no_needs 0

@@ -192,12 +192,14 @@ honest_all c seed v parts some serve (id, counts, together) =
     let P : ℕ → Type 0 = λ n. HonestTogether parts n id counts in
     let mult = serve.records 0 first.0 kind.Mult first.1 in
     let bit = serve.records 0 first.0 kind.Bit first.1 in
+    let shared = serve.records 0 first.0 kind.Shared first.1 in
     let key = serve.records 0 first.0 kind.Key first.1 in
     let mults = ap (λ (n : Needs). n.mult) same in
     let bits = ap (λ (n : Needs). n.bit) same in
+    let shareds = ap (λ (n : Needs). n.shared) same in
     let keys = ap (λ (n : Needs). n.key) same in
     jobs_of_seed_are_honest (plan_of c) seed (inputs_of c) v parts id counts (subst P count together)
-    (omega (arith, mult, mults)) (omega (arith, bit, bits)) (omega (arith, key, keys))
+    (omega (arith, mult, mults)) (omega (arith, bit, bits)) (omega (arith, shared, shareds)) (omega (arith, key, keys))
 
 -- what is reported of a run is what the joint run tells all parties, and with honest parts their outputs of the plain
 -- evaluation

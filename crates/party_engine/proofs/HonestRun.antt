@@ -29,7 +29,6 @@ use Rattle.plan_gates.specs.Messages.{message, are_two, spec_of, AreSlotsTo}
 use Rattle.joint_run.specs.Party.{Own, party_value, party_sends}
 use Rattle.joint_run.specs.Joint.{Payloads, IsJoint, column}
 use Rattle.joint_run.specs.Laws.{length_of, Hears}
-use Rattle.joint_run.proofs.Converting.{unconverted}
 use Rattle.joint_run.proofs.Following.{a_party_follows}
 use Rattle.joint_run.proofs.Lengths.{payloads_have_their_lengths}
 use Rattle.joint_run.proofs.Narrow.{payloads_have_their_shapes}
@@ -78,8 +77,8 @@ some_message (Some m) e = (m, refl)
 module _ (b : Side) (run : Run) (plan : IsPlan b.plan) (unkeyed : has_keys b.plan ≡ false) (owns : List Own) (table : Payloads) (count : length owns ≡ b.plan.parties) (joint : IsJoint b.plan owns table) (slots : List SlotSpec) (are : AreSlotsTo b.plan (me_of b) slots) where
   fits : (q g r : ℕ) (m : PlanMessage) → message b.plan q (me_of b) g r ≡ Some m → unfit (spec_of q g r m) (table g r q (me_of b)) ≡ None
   fits q g r m there =
-      let long : length (table g r q (me_of b)) ≡ m.len = payloads_have_their_lengths b.plan owns table (unconverted b.plan unkeyed) count joint g r q (me_of b) ∙ ap length_of there in
-      let narrow : has_high_bits m.shape (table g r q (me_of b)) ≡ false = payloads_have_their_shapes b.plan owns table plan (unconverted b.plan unkeyed) count joint g r q (me_of b) m there in
+      let long : length (table g r q (me_of b)) ≡ m.len = payloads_have_their_lengths b.plan owns table count joint g r q (me_of b) ∙ ap length_of there in
+      let narrow : has_high_bits m.shape (table g r q (me_of b)) ≡ false = payloads_have_their_shapes b.plan owns table plan count joint g r q (me_of b) m there in
       let even : eqb (length (table g r q (me_of b))) m.len ≡ true = eq-eqb (length (table g r q (me_of b))) m.len long in
       rw (even, narrow) refl
 
@@ -145,11 +144,11 @@ module _ (b : Side) (run : Run) (parties : run.parties ≡ b.plan.parties) (plan
 
   -- it sends what it has in the run
   pub honest_sends : slice_get owns (me_of b) ≡ Some (own_of b) → (g r to : ℕ) → party_sends b.plan (me_of b) (own_of b) (heard_of over.inbox) g r to ≡ table g r (me_of b) to
-  honest_sends mine = (a_party_follows b.plan owns table (unconverted b.plan unkeyed) count joint (me_of b) (own_of b) (heard_of over.inbox) mine hears).1
+  honest_sends mine = (a_party_follows b.plan owns table count joint (me_of b) (own_of b) (heard_of over.inbox) mine hears).1
 
   pub honest_report : slice_get owns (me_of b) ≡ Some (own_of b) → IsReportOf b.plan (me_of b) (party_value b.plan (me_of b) (own_of b) (column table (me_of b))) (λ g round to. table g round (me_of b) to) report
   honest_report mine =
-      let follows = a_party_follows b.plan owns table (unconverted b.plan unkeyed) count joint (me_of b) (own_of b) (heard_of over.inbox) mine hears in
+      let follows = a_party_follows b.plan owns table count joint (me_of b) (own_of b) (heard_of over.inbox) mine hears in
       let values : party_value b.plan (me_of b) (own_of b) (heard_of over.inbox) ≡ party_value b.plan (me_of b) (own_of b) (column table (me_of b)) = fun_ext follows.0 in
       let sends : party_sends b.plan (me_of b) (own_of b) (heard_of over.inbox) ≡ (λ g round to. table g round (me_of b) to) = fun_ext (λ g. fun_ext (λ r. fun_ext (λ to. follows.1 g r to))) in
       rw (values, sends) at over.report_is

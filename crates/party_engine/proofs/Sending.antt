@@ -15,7 +15,6 @@ use Rattle.plan_gates.specs.Messages.{message, are_two}
 use Rattle.plan_gates.proofs.SlotLemmas.{message_fits}
 use Rattle.joint_run.specs.Party.{Inbox, party_sends}
 use Rattle.joint_run.specs.Laws.{length_of}
-use Rattle.joint_run.proofs.Converting.{unconverted}
 use Rattle.joint_run.proofs.Lengths.{sends_fit}
 use Rattle.gate_tasks.specs.declared.outgoing.Out.{Out}
 use Rattle.gate_tasks.specs.declared.stage.StageOut.{StageOut}
@@ -37,7 +36,7 @@ module _ (b : Side) (plan : IsPlan b.plan) (unkeyed : has_keys b.plan ≡ false)
       let two = both _ _ (two_of (are_two b.plan.parties (me_of b) to) _ some) in
       let ends = both _ _ two.0 in
       let fits = message_fits b.plan plan (me_of b) to g round m there in
-      let long : length (party_sends b.plan (me_of b) (own_of b) got g round to) ≡ m.len = sends_fit b.plan (unconverted b.plan unkeyed) (me_of b) (own_of b) got g round to ∙ ap length_of there in
+      let long : length (party_sends b.plan (me_of b) (own_of b) got g round to) ≡ m.len = sends_fit b.plan (me_of b) (own_of b) got g round to ∙ ap length_of there in
       let inside : to < b.plan.parties = ltb-true to b.plan.parties ends.1 in
       let other : eqb (me_of b) to ≡ false = not_true (eqb (me_of b) to) two.1 in
       record {

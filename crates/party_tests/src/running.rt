@@ -1,6 +1,7 @@
 //! What one party's run of a product reports and sends, whatever the cuts of its peer's bytes.
 
-ghost use Rattle.std.specs.Prelude.{◌≡◌, ◌<◌, ◌≤◌, true};
+ghost use Rattle.std.specs.Prelude.{◌≡◌, ◌<◌, ◌≤◌, length, true};
+ghost use Rattle.mot_base.specs.Limits.{most_file_bytes};
 ghost use Rattle.party_engine.specs.Run.{IsAsked};
 
 use crate::streams::cut;
@@ -9,7 +10,7 @@ use dealer_files::{DealerPart, read_dealer};
 use gate_plan::{Plan, lower_mixed};
 use gate_tasks::{Own, serves_party};
 use mixed_circuit::{Mixed, read_mixed};
-use mot_base::{MAX_FILE_LENGTH, MemLinks, OpenGate, Party, Seed, derive};
+use mot_base::{MAX_FILE_LENGTH, MemLinks, OpenGate, Party, Seed, Turnstile, derive};
 use party_engine::{Brought, PartyError, PartyReport, run_party};
 use share_types::Needs;
 use std::alloc::Global;
@@ -49,10 +50,12 @@ fn may_run(brought: &Brought) -> bool
     serves_party(brought.plan, brought.own.me, brought.own, brought.part)
 }
 
-/// What party 0 brings, with 6 as its input.
-fn own_of(alloc: Global, circuit: &Mixed) -> Option<Own> {
+/// What party 0 brings, with these values of its inputs.
+fn own_of(alloc: Global, circuit: &Mixed, values: &[u8]) -> Option<Own>
+    requires { length values.now ≤ most_file_bytes }
+{
     let inputs = circuit.inputs(alloc).ok()?;
-    let values = read_values(alloc, b"x = 6\n", &inputs, Some(Party(0))).ok()?;
+    let values = read_values(alloc, values, &inputs, Some(Party(0))).ok()?;
     Some(Own {
         me: Party(0),
         seed: derive(&Seed([0; 32]), 0),
@@ -67,13 +70,14 @@ fn bytes_of(alloc: Global, text: &str) -> Option<Vec<u8>> {
     hex::decode(alloc, text).ok()
 }
 
-/// The run of party 0 over links.
-fn run<R: Threads + Sync>(
+/// The run of party 0 over links, of which each stage passes a gate.
+pub(crate) fn run<G: Turnstile + Sync, R: Threads + Sync>(
     rt: &R,
     alloc: Global,
     brought: &Brought,
     links: &mut MemLinks,
     workers: u8,
+    gate: &G,
 ) -> Option<Result<PartyReport, PartyError>>
     requires { (1 ≤ workers) × (workers ≤ 16) }
 {
@@ -81,11 +85,11 @@ fn run<R: Threads + Sync>(
         return None;
     }
     let circuit = CIRCUIT;
-    Some(run_party(rt, alloc, brought, &circuit, 0, links, workers, &OpenGate))
+    Some(run_party(rt, alloc, brought, &circuit, 0, links, workers, gate))
 }
 
 /// Whether a report tells 42 and has the digest of the messages.
-fn is_right(alloc: Global, report: &PartyReport) -> bool {
+pub(crate) fn is_right(alloc: Global, report: &PartyReport) -> bool {
     let Some(digest) = bytes_of(alloc, DIGEST) else {
         return false;
     };
@@ -113,7 +117,7 @@ fn is_run_in_pieces<R: Threads + Sync>(
         return false;
     };
     let mut links = MemLinks::new(alloc, pieces, Vec::new(alloc), Vec::new(alloc));
-    match run(rt, alloc, brought, &mut links, workers) {
+    match run(rt, alloc, brought, &mut links, workers, &OpenGate) {
         Some(Ok(report)) => is_right(alloc, &report) && links.sent(Party(1)) == sent.as_slice(),
         _ => false,
     }
@@ -149,7 +153,7 @@ fn is_closed_early<R: Threads + Sync>(
         return false;
     };
     let mut links = MemLinks::new(alloc, pieces, closing, Vec::new(alloc));
-    match run(rt, alloc, brought, &mut links, 1) {
+    match run(rt, alloc, brought, &mut links, 1, &OpenGate) {
         Some(Err(PartyError::PeerClosed { peer })) => peer == Party(1),
         _ => false,
     }
@@ -166,13 +170,22 @@ fn is_closed_early_anywhere<R: Threads + Sync>(rt: &R, alloc: Global, brought: &
 }
 
 /// What party 0 brings to the product.
-fn brought_of(alloc: Global) -> Option<(Plan, Own, DealerPart)> {
-    if PRODUCT.len() > MAX_FILE_LENGTH {
+pub(crate) fn brought_of(alloc: Global) -> Option<(Plan, Own, DealerPart)> {
+    brought_to(alloc, PRODUCT, b"x = 6\n")
+}
+
+/// What party 0 brings to a circuit, with these values of its inputs.
+pub(crate) fn brought_to(
+    alloc: Global,
+    text: &[u8],
+    values: &[u8],
+) -> Option<(Plan, Own, DealerPart)> {
+    if text.len() > MAX_FILE_LENGTH || values.len() > MAX_FILE_LENGTH {
         return None;
     }
-    let circuit = read_mixed(alloc, PRODUCT).ok()?;
+    let circuit = read_mixed(alloc, text).ok()?;
     let plan = lower_mixed(alloc, &circuit).ok()?;
-    let own = own_of(alloc, &circuit)?;
+    let own = own_of(alloc, &circuit, values)?;
     let part = part_of(alloc)?;
     Some((plan, own, part))
 }

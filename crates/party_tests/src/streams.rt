@@ -31,7 +31,8 @@ fn hex_of(part: char) -> &'static str {
     }
 }
 
-fn stream(alloc: Global, parts: &str) -> Option<Vec<u8>> {
+/// The bytes of such parts, one after another.
+pub(crate) fn stream(alloc: Global, parts: &str) -> Option<Vec<u8>> {
     let mut text = String::new(alloc);
     for part in parts.chars() {
         text.push_str(hex_of(part)).ok()?;
@@ -88,7 +89,7 @@ fn inbox(alloc: Global) -> Result<Inbox, NoMemory>
 
 /// What the run of party 0 ended with.
 #[derive(Clone, Copy, Debug, PartialEq, Eq)]
-enum Answer {
+pub(crate) enum Answer {
     /// It ended well, and keeps all payloads.
     Kept,
     /// It ended well, and lacks a payload.
@@ -126,7 +127,7 @@ fn holds_all(inbox: &Inbox) -> bool {
         && holds(inbox, 3, b"\xda\xae\x7c\x12\x76\xd4\x05\x11")
 }
 
-fn answer_of(error: &PartyError) -> Answer {
+pub(crate) fn answer_of(error: &PartyError) -> Answer {
     match error {
         PartyError::HelloMissing { peer: _ } => Answer::HelloMissing,
         PartyError::HelloDiffers {
